@@ -1,0 +1,29 @@
+-- Texts in code-point order. UTF-8 keeps the order of code points, so texts are compared by bytes.
+use Rattle.std.specs.Prelude.{ℕ, List, [], ◌∷◌, Bool, true, false, ◌==◌, nat_lt, if◌then◌else◌}
+use Rattle.std.specs.Str.{bytes_eq}
+
+-- whether x is y, or comes before it
+abbrev pub is_upto : List ℕ → List ℕ → Bool
+is_upto [] ys = true
+is_upto (x ∷ xs) [] = false
+is_upto (x ∷ xs) (y ∷ ys) = if x == y then is_upto xs ys else nat_lt x y
+
+-- t at its place among texts that are in order
+abbrev pub put : List ℕ → List (List ℕ) → List (List ℕ)
+put t [] = t ∷ []
+put t (u ∷ us) = if is_upto t u then t ∷ (u ∷ us) else u ∷ put t us
+
+-- the texts in code-point order, each as often as it stands in the list
+abbrev pub in_order : List (List ℕ) → List (List ℕ)
+in_order [] = []
+in_order (t ∷ ts) = put t (in_order ts)
+
+-- the same, where t is put in only if it is not there
+abbrev pub put_once : List ℕ → List (List ℕ) → List (List ℕ)
+put_once t [] = t ∷ []
+put_once t (u ∷ us) = if bytes_eq t u then u ∷ us else (if is_upto t u then t ∷ (u ∷ us) else u ∷ put_once t us)
+
+-- the texts in code-point order, each once
+abbrev pub rising : List (List ℕ) → List (List ℕ)
+rising [] = []
+rising (t ∷ ts) = put_once t (rising ts)

@@ -1,0 +1,16 @@
+//! What every crate of Sodvari stands on: text that contracts see as its bytes (`Text`), a `Vec` that
+//! they see as its elements (`Sequence`), want of memory (`Memory`), and the words on lists and on the
+//! order of texts that std lacks (`specs/`).
+//!
+//! Each crate above gives these names by `pub use`, so that `Memory` is one type everywhere. `Items`
+//! and `Boxed` are the kit's: a `Vec` and a `Box` by which a type may lead back to itself.
+#![tactic(auto)]
+
+mod memory;
+mod sequence;
+mod text;
+
+pub use memory::Memory;
+pub use sequence::Sequence;
+pub use sqlite_items::{Boxed, Items};
+pub use text::Text;

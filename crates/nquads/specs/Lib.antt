@@ -1,0 +1,5 @@
+pub mod Terms
+pub mod Renaming
+pub mod Spelling
+pub mod Lines
+pub mod Texts

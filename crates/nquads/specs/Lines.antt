@@ -1,0 +1,44 @@
+-- Canonical lines and the text that they make. RDF Canonicalization, the canonical form of N-Quads.
+use Rattle.std.specs.Prelude.{◌≡◌, ℕ, List, [], ◌∷◌, ◌++◌, map, Contains, Option, Some, None}
+use Rattle.std.specs.List.{concat}
+use Rattle.base_types.specs.Order.{rising}
+use Rattle.nquads.specs.Terms.{Blank, by_label, Term, iri, literal, blank, Statement, IsLabel}
+use Rattle.nquads.specs.Renaming.{rename, blanks_of}
+use Rattle.nquads.specs.Spelling.{iri_text, literal_text}
+
+-- a term in a line: a blank node is `_:` and its label
+abbrev pub term_text : (Blank → List ℕ) → Term → List ℕ
+term_text label (iri text) = iri_text text
+term_text label (literal text datatype language) = literal_text text datatype language
+term_text label (blank b) = 95 ∷ 58 ∷ label b
+
+-- the graph and a space, or nothing for the default graph
+abbrev pub graph_text : (Blank → List ℕ) → Option Term → List ℕ
+graph_text label None = []
+graph_text label (Some g) = term_text label g ++ 32 ∷ []
+
+-- Subject, predicate, object and, where there is one, graph, with one space between, then ` .` and LF.
+abbrev pub line : (Blank → List ℕ) → Statement → List ℕ
+line label s = term_text label s.subject ++ (32 ∷ (iri_text s.predicate ++ (32 ∷ (term_text label s.object ++ (32 ∷ (graph_text label s.graph ++ (46 ∷ 10 ∷ [])))))))
+
+-- the lines of a dataset in code-point order, each once
+abbrev pub canonical_lines : (Blank → List ℕ) → List Statement → List (List ℕ)
+canonical_lines label q = rising (map (line label) q)
+
+-- The canonical text of a dataset under labels for its blank nodes.
+abbrev pub canonical_text : (Blank → List ℕ) → List Statement → List ℕ
+canonical_text label q = concat (canonical_lines label q)
+
+-- a text that ends with LF and holds no other
+pub record IsLine (text : List ℕ) : Type 0 where
+  pub front : List ℕ
+  pub is : text ≡ front ++ 10 ∷ []
+  pub whole : Contains front 10 → ⊥
+
+-- the statement with each blank node named by its label
+abbrev pub labelled : (Blank → List ℕ) → Statement → Statement
+labelled label s = rename (λ b. record { kind = by_label; name = label b }) s
+
+-- each blank node of the statement has a label in its grammar
+abbrev pub HasLabels : (Blank → List ℕ) → Statement → Type 0
+HasLabels label s = (b : Blank) → Contains (blanks_of s) b → IsLabel (label b)

@@ -1,0 +1,60 @@
+-- How terms are written: canonical N-Quads for IRIs and literals, and one text for each blank node.
+-- RDF Canonicalization, the canonical form of N-Quads; RDF 1.1 N-Quads, 4.
+use Rattle.std.specs.Prelude.{ℕ, ◌+◌, ◌/◌, ◌%◌, List, [], ◌∷◌, ◌++◌, ◌==◌, ◌||◌, nat_lt, if◌then◌else◌, Option, Some, None, option_map}
+use Rattle.std.specs.List.{flat_map}
+use Rattle.std.specs.Str.{bytes_eq}
+use Rattle.nquads.specs.Terms.{BlankKind, by_label, by_node, by_graph, by_cell, Blank, Term, iri, literal, blank, Statement, xsd_string}
+use Rattle.nquads.specs.declared.quads.TextQuad.{TextQuad}
+
+-- a hexadecimal digit, in upper case
+abbrev pub hex_digit : ℕ → ℕ
+hex_digit n = if nat_lt n 10 then 48 + n else 55 + n
+
+-- A byte of a literal's text: \b \t \n \f \r \" \\, \u00XX for the other controls and for U+007F, and
+-- itself otherwise.
+abbrev pub escape : ℕ → List ℕ
+escape c =
+    if c == 8 then 92 ∷ 98 ∷ []
+    else (if c == 9 then 92 ∷ 116 ∷ []
+    else (if c == 10 then 92 ∷ 110 ∷ []
+    else (if c == 12 then 92 ∷ 102 ∷ []
+    else (if c == 13 then 92 ∷ 114 ∷ []
+    else (if c == 34 then 92 ∷ 34 ∷ []
+    else (if c == 92 then 92 ∷ 92 ∷ []
+    else (if nat_lt c 32 || (c == 127) then 92 ∷ 117 ∷ 48 ∷ 48 ∷ hex_digit (c / 16) ∷ hex_digit (c % 16) ∷ []
+    else c ∷ [])))))))
+
+-- an IRI in angle brackets
+abbrev pub iri_text : List ℕ → List ℕ
+iri_text text = 60 ∷ (text ++ 62 ∷ [])
+
+-- what follows the quoted text: `@` and the language, or `^^` and the datatype, which is left out where
+-- it is xsd:string
+abbrev pub literal_end : List ℕ → Option (List ℕ) → List ℕ
+literal_end datatype (Some language) = 64 ∷ language
+literal_end datatype None = if bytes_eq datatype xsd_string then [] else 94 ∷ 94 ∷ iri_text datatype
+
+-- the canonical literal
+abbrev pub literal_text : List ℕ → List ℕ → Option (List ℕ) → List ℕ
+literal_text text datatype language = 34 ∷ (flat_map escape text ++ 34 ∷ literal_end datatype language)
+
+-- a letter for each kind of name, so that names of two kinds are never one text
+abbrev pub kind_letter : BlankKind → ℕ
+kind_letter by_label = 110
+kind_letter by_node = 111
+kind_letter by_graph = 103
+kind_letter by_cell = 99
+
+-- `_:`, the letter of the kind, and the name
+abbrev pub blank_text : Blank → List ℕ
+blank_text b = 95 ∷ 58 ∷ kind_letter b.kind ∷ b.name
+
+-- The spelling of a term, by which the program keeps it.
+abbrev pub spelling : Term → List ℕ
+spelling (iri text) = iri_text text
+spelling (literal text datatype language) = literal_text text datatype language
+spelling (blank b) = blank_text b
+
+-- a statement's four spellings
+abbrev pub spelled : Statement → TextQuad
+spelled s = record { subject = spelling s.subject; predicate = iri_text s.predicate; object = spelling s.object; graph = option_map spelling s.graph }
