@@ -1,0 +1,50 @@
+ghost use Rattle.std.specs.Prelude.{ℕ, List, Option, ◌<◌, ◌≤◌, length, take, IfOk, OnOk, OnErr};
+ghost use Rattle.vc_io.specs.Bytes.{HasRisen, Wrote, WrotePrefix};
+
+use crate::source::Failed;
+
+/// What takes bytes.
+pub trait Sink {
+    /// The bytes that it took so far, where it tells them.
+    ghost written: { Self → Option (List ℕ) };
+
+    /// How often it failed.
+    ghost faults: { Self → ℕ };
+
+    /// Takes some first bytes of `from`, at least one where there is one, and answers how many.
+    /// `Failed`: the write failed, and some first bytes of `from` may have been taken.
+    fn write(&mut self, from: &[u8]) -> Result<usize, Failed>
+        ensures within { IfOk result (λ n. n ≤ length from.now) }
+        ensures some { IfOk result (λ n. 0 < length from.now → 0 < n) }
+        ensures wrote { IfOk result (λ n. Wrote (written self.old) (written self.new) (take n from.now)) }
+        ensures prefix { OnErr result (WrotePrefix (written self.old) (written self.new) from.now) }
+        ensures counted { faults self.old ≤ faults self.new }
+        ensures failed { OnErr result (HasRisen (faults self.old) (faults self.new)) };
+}
+
+/// A write failed before all bytes were taken. The sink's count of faults rose.
+#[derive(Clone, Copy, Debug, PartialEq, Eq)]
+pub struct WriteFailed;
+
+impl From<Failed> for WriteFailed {
+    fn from(_failed: Failed) -> WriteFailed {
+        WriteFailed
+    }
+}
+
+/// Writes all of `bytes`. It takes no memory.
+///
+/// `WriteFailed`: a write failed. The sink then took a first part of `bytes`.
+#[tactic(auto, using(crate::proofs::Moves::writes))]
+pub fn write_all<K: Sink>(sink: &mut K, bytes: &[u8]) -> Result<(), WriteFailed>
+    ensures all { OnOk result (Wrote (K.written sink.old) (K.written sink.new) bytes.now) }
+    ensures prefix { OnErr result (WrotePrefix (K.written sink.old) (K.written sink.new) bytes.now) }
+    ensures failed { OnErr result (HasRisen (K.faults sink.old) (K.faults sink.new)) }
+    ensures counted { K.faults sink.old ≤ K.faults sink.new }
+{
+    let mut at = 0;
+    while at < bytes.len() {
+        at += sink.write(&bytes[at..])?;
+    }
+    Ok(())
+}

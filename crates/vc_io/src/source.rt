@@ -1,0 +1,90 @@
+ghost use Rattle.std.specs.Prelude.{◌≡◌, ℕ, List, Option, ◌+◌, ◌<◌, ◌≤◌, length, take, Err, IfOk, OnOk, OnErr, IsErrOf};
+ghost use Rattle.std.specs.Io.KnownBytes.{IsAtEnd};
+ghost use Rattle.vc_io.specs.Bytes.{Gave, GaveFirst, HasRisen, IsAllOf, IsMoreThan, IsUsedUp};
+
+use base_types::Memory;
+use std::alloc::{AllocError, Global};
+
+/// How many bytes one call of `read_all` asks for at most.
+const PIECE: usize = 512;
+
+/// A read or a write failed. The count of faults of its source or sink rose.
+#[derive(Clone, Copy, Debug, PartialEq, Eq)]
+pub struct Failed;
+
+/// What gives bytes.
+pub trait Source {
+    /// The bytes that it will still give, where it tells them.
+    ghost left: { Self → Option (List ℕ) };
+
+    /// How often it failed.
+    ghost faults: { Self → ℕ };
+
+    /// Puts some bytes at the front of `into`, and answers how many. 0 for an `into` that is not empty
+    /// is the end. `Failed`: the read failed.
+    fn read(&mut self, into: &mut [u8]) -> Result<usize, Failed>
+        ensures within { IfOk result (λ n. n ≤ length into.old) }
+        ensures gave { IfOk result (λ n. Gave (left self.old) (left self.new) (take n into.new)) }
+        ensures end { IfOk result (λ n. n ≡ 0 → 0 < length into.old → IsAtEnd (left self.old)) }
+        ensures counted { faults self.old ≤ faults self.new }
+        ensures failed { OnErr result (HasRisen (faults self.old) (faults self.new)) };
+}
+
+/// Why `read_all` gave no bytes.
+#[derive(Clone, Copy, Debug, PartialEq, Eq)]
+pub enum ReadAllFault {
+    /// A read failed.
+    Failed,
+    /// The source gave more than so many bytes, the most that were allowed.
+    TooLong(u64),
+    /// Want of memory.
+    Memory,
+}
+
+impl From<Failed> for ReadAllFault {
+    ghost use Rattle.vc_io.specs.declared.source.ReadAllFault.TheVariants as fault;
+
+    ghost from_gives = { λ _ e. e ≡ fault.Failed };
+
+    fn from(_failed: Failed) -> ReadAllFault {
+        ReadAllFault::Failed
+    }
+}
+
+impl From<AllocError> for ReadAllFault {
+    ghost use Rattle.vc_io.specs.declared.source.ReadAllFault.TheVariants as fault;
+
+    ghost from_gives = { λ _ e. e ≡ fault.Memory };
+
+    fn from(_error: AllocError) -> ReadAllFault {
+        ReadAllFault::Memory
+    }
+}
+
+/// All bytes of `source` to its end, at most `max` of them.
+///
+/// `TooLong(max)`: it gave one byte more than that, and reading stopped there. `Failed`: a read failed.
+#[tactic(auto, using(crate::proofs::Moves::turns))]
+pub fn read_all<S: Source>(alloc: Global, source: &mut S, max: u64) -> Result<Vec<u8>, ReadAllFault>
+    ensures all { IfOk result (λ bytes. IsAllOf (S.left source.old) bytes.items) }
+    ensures at_most { IfOk result (λ bytes. length bytes.items ≤ max) }
+    ensures used_up { OnOk result (IsUsedUp (S.left source.old) (S.left source.new)) }
+    ensures too_long { (m : ℕ) → result ≡ Err (ReadAllFault.TooLong m) → (m ≡ max) × IsMoreThan max (S.left source.old) }
+    ensures stops { (m : ℕ) → result ≡ Err (ReadAllFault.TooLong m) → GaveFirst (max + 1) (S.left source.old) (S.left source.new) }
+    ensures failed { IsErrOf result ReadAllFault.Failed → HasRisen (S.faults source.old) (S.faults source.new) }
+    ensures counted { S.faults source.old ≤ S.faults source.new }
+{
+    let mut bytes = Vec::new(alloc);
+    let mut piece = [0u8; PIECE];
+    while bytes.len() as u64 <= max {
+        // At most one byte past `max`. The sum cannot overflow, even where `max` is the greatest u64.
+        let wanted = (max - bytes.len() as u64).min(PIECE as u64 - 1) + 1;
+        let into = &mut piece[..wanted as usize];
+        let taken = source.read(into)?;
+        if taken == 0 {
+            return Ok(bytes);
+        }
+        bytes.extend_from_slice(&into[..taken])?;
+    }
+    Err(ReadAllFault::TooLong(max))
+}
