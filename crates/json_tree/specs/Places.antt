@@ -3,6 +3,7 @@ use Rattle.std.specs.Prelude.{ℕ, List, [], ◌∷◌, map, ◌==◌, Option, S
 use Rattle.std.specs.Str.{bytes_eq}
 use Rattle.json_tree.specs.declared.tree.Tree.{Tree, out-Tree}
 use Rattle.json_tree.specs.declared.tree.Tree.TheOpen.{Tree-F}
+use Rattle.json_tree.specs.declared.tree.Member.{Member}
 use Rattle.json_tree.specs.declared.place.Step.{Step}
 use Rattle.json_tree.specs.declared.place.Step.TheVariants.{Key, At}
 
@@ -19,6 +20,22 @@ child_of t step = child_in (out-Tree t) step
 abbrev pub look : List Step → Tree → Option Tree
 look [] t = Some t
 look (step ∷ steps) t = option_and_then (look steps) (child_of t step)
+
+-- the text, or nothing where the tree is no text
+abbrev pub text_in : Tree-F Tree → Option (List ℕ)
+text_in (Tree-F.Text text) = Some text
+text_in t = None
+
+abbrev pub text_of : Tree → Option (List ℕ)
+text_of t = text_in (out-Tree t)
+
+-- an object's members in order, or nothing where the tree is no object
+abbrev pub members_in : Tree-F Tree → Option (List (Member Tree))
+members_in (Tree-F.Object members) = Some members
+members_in t = None
+
+abbrev pub members_of : Tree → Option (List (Member Tree))
+members_of t = members_in (out-Tree t)
 
 -- the names of an object's members in order, or nothing where the tree is no object
 abbrev pub names_in : Tree-F Tree → Option (List (List ℕ))

@@ -1,6 +1,9 @@
-use base_types::{Items, Text};
+ghost use Rattle.std.specs.Prelude.{◌≡◌, OnSome};
+ghost use Rattle.std.specs.Option.{option_copied};
 
-/// A JSON value. Numbers of every form are one variant for now.
+use base_types::{Items, Memory, Text};
+
+/// A JSON value. Numbers of every form are one variant.
 #[derive(Debug, Drop)]
 pub enum Tree {
     Null,
@@ -31,4 +34,39 @@ pub enum TreeFault {
     NotJson,
     /// Want of memory.
     Memory,
+}
+
+impl From<Memory> for TreeFault {
+    ghost use Rattle.std.specs.Prelude.{◌≡◌};
+    ghost use Rattle.json_tree.specs.declared.tree.TreeFault.TheVariants as fault;
+
+    ghost from_gives = { λ _ e. e ≡ fault.Memory };
+
+    fn from(_error: Memory) -> TreeFault {
+        TreeFault::Memory
+    }
+}
+
+impl Tree {
+    ghost use Rattle.json_tree.specs.Places.{text_of, members_of};
+
+    /// The text, where the value is one.
+    pub fn as_text(&self) -> Option<&Text>
+        ensures { option_copied result ≡ text_of self.now }
+    {
+        match self {
+            Tree::Text(text) => Some(text),
+            _ => None,
+        }
+    }
+
+    /// The members, where the value is an object.
+    pub fn as_object(&self) -> Option<&[Member]>
+        ensures { option_copied result ≡ members_of self.now }
+    {
+        match self {
+            Tree::Object(members) => Some(members.as_slice()),
+            _ => None,
+        }
+    }
 }

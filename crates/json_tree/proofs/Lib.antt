@@ -1,0 +1,4 @@
+pub mod Rising
+pub mod TreeLemmas
+pub mod Induction
+pub mod Steps

@@ -1,0 +1,101 @@
+-- Lists of which each element passes a test together with the next, and look-ups by name in them.
+use Rattle.std.proofs.Common.{◌≡◌, ℕ, ◌+◌, ◌-◌, ◌<◌, ◌≤◌, zero, suc, Bool, true, false, ◌&&◌, List, [], ◌∷◌, ◌++◌, map, length, get_or, Option, Some, None, option_map, find, Ordering, Less, Equal, Greater, refl, sym, ap, add-one, ◌∙◌, subst, arith, inl, inr, ◌⊎◌}
+use Rattle.std.specs.Str.{bytes_eq}
+use Rattle.std.specs.Ordering.{nat_cmp, is_lt, is_eq, ordering_reverse}
+use Rattle.std.specs.Cmp.Lexicographic.{slice_cmp}
+use Rattle.std.specs.List.{AllWithin, HoldsAt}
+use Rattle.std.specs.List.Sorted.{IsSortedBy}
+use Rattle.std.proofs.lemmas.Cmp.{nat_list_cmp_total}
+use Rattle.std.proofs.lemmas.Bool.{cases_lt}
+use Rattle.std.proofs.lemmas.Map.Text.{is_eq-slice_cmp}
+use Rattle.std.proofs.lemmas.Slice.Eq.{bytes_eq-Decides}
+use Rattle.json_tree.specs.declared.tree.Tree.{Tree}
+use Rattle.json_tree.specs.declared.tree.Member.{Member}
+use Rattle.json_tree.specs.Trees.{each_next, is_before}
+
+-- `&&` taken apart and put together
+pub left_of : (a b : Bool) → (a && b) ≡ true → a ≡ true
+left_of true b h = refl
+left_of false b h = absurd (cc)
+
+pub right_of : (a b : Bool) → (a && b) ≡ true → b ≡ true
+right_of true b h = h
+right_of false b h = absurd (cc)
+
+pub both_hold : (a b : Bool) → a ≡ true → b ≡ true → (a && b) ≡ true
+both_hold a b p q = rw (p, q)
+
+-- the test on a list's images
+pub each_next-map : {X Y : Type 0} (f : X → Y) (test : Y → Y → Bool) (xs : List X) → each_next test (map f xs) ≡ each_next (λ x y. test (f x) (f y)) xs
+each_next-map f test [] = refl
+each_next-map f test (x ∷ []) = refl
+each_next-map f test (x ∷ (y ∷ ys)) = ap (λ b. test (f x) (f y) && b) (each_next-map f test (y ∷ ys))
+
+pub each_next-tail : {X : Type 0} (test : X → X → Bool) (x : X) (xs : List X) → each_next test (x ∷ xs) ≡ true → each_next test xs ≡ true
+each_next-tail test x [] h = refl
+each_next-tail test x (y ∷ ys) h = right_of (test x y) _ h
+
+-- each element and the next one
+pub each_next-at : {X : Type 0} (test : X → X → Bool) (xs : List X) (k : ℕ) (d : X) → each_next test xs ≡ true → suc k < length xs → test (get_or xs k d) (get_or xs (suc k) d) ≡ true
+each_next-at test [] k d h l = absurd (omega arith)
+each_next-at test (x ∷ []) k d h l = absurd (omega arith)
+each_next-at test (x ∷ (y ∷ ys)) zero d h l = left_of (test x y) _ h
+each_next-at test (x ∷ (y ∷ ys)) (suc k) d h l = each_next-at test (y ∷ ys) k d (right_of (test x y) _ h) (omega arith)
+
+-- ---- the order of names
+
+pub is_less : (o : Ordering) → is_lt o ≡ true → o ≡ Less
+is_less Less h = refl
+is_less Equal h = absurd (cc)
+is_less Greater h = absurd (cc)
+
+-- an earlier name comes before each later one
+pub is_before-trans : (a b c : List ℕ) → is_before a b ≡ true → is_before b c ≡ true → is_before a c ≡ true
+is_before-trans a b c p q = ap is_lt (nat_list_cmp_total.trans a b c (is_less _ p) (is_less _ q))
+
+-- a name does not come before an equal one, nor after itself
+pub is_before-differs : (a b : List ℕ) → is_before a b ≡ true → bytes_eq a b ≡ false
+is_before-differs a b p = sym (is_eq-slice_cmp a b) ∙ ap is_eq (is_less _ p)
+
+-- the members' names rise
+abbrev pub NamesRise : List (Member Tree) → Type 0
+NamesRise members = each_next (λ m n. is_before m.key n.key) members ≡ true
+
+pub first_is_before : (m : Member Tree) (ms : List (Member Tree)) (k : ℕ) (d : Member Tree) → NamesRise (m ∷ ms) → k < length ms → is_before m.key (get_or ms k d).key ≡ true
+first_is_before m [] k d h l = absurd (omega arith)
+first_is_before m (n ∷ ns) zero d h l = left_of (is_before m.key n.key) _ h
+first_is_before m (n ∷ ns) (suc k) d h l =
+    is_before-trans m.key n.key _ (left_of (is_before m.key n.key) _ h) (first_is_before n ns k d (right_of (is_before m.key n.key) _ h) (omega arith))
+
+-- a name equals itself
+pub bytes_eq-itself : (a : List ℕ) → bytes_eq a a ≡ true
+bytes_eq-itself a = (bytes_eq-Decides a a).1 refl
+
+-- the one member of a name is the first of that name
+pub find_at_name : (ms : List (Member Tree)) (k : ℕ) (d : Member Tree) → NamesRise ms → k < length ms → find (λ m. bytes_eq m.key (get_or ms k d).key) ms ≡ Some (get_or ms k d)
+find_at_name [] k d h l = absurd (omega arith)
+find_at_name (m ∷ ms) zero d h l = rw (bytes_eq-itself m.key)
+find_at_name (m ∷ ms) (suc k) d h l =
+    rw (is_before-differs m.key (get_or ms k d).key (first_is_before m ms k d h (omega arith))) (find_at_name ms k d (each_next-tail _ m ms h) (omega arith))
+
+pub find_absent : (ms : List (Member Tree)) (key : List ℕ) → ((k : ℕ) (d : Member Tree) → k < length ms → bytes_eq (get_or ms k d).key key ≡ false) → find (λ m. bytes_eq m.key key) ms ≡ None
+find_absent [] key h = refl
+find_absent (m ∷ ms) key h = rw (h 0 m (omega arith)) (find_absent ms key (λ k d l. h (suc k) d (omega arith)))
+
+-- ---- what a search by halving answers
+
+-- names that rise are sorted
+pub rises_sorted : (ms : List (Member Tree)) → NamesRise ms → IsSortedBy (λ a b. is_lt (slice_cmp nat_cmp a.key b.key)) ms
+rises_sorted ms h k d low high =
+    let a = (get_or ms k d).key in
+    let b = (get_or ms (suc k) d).key in
+    rw add-one (ap is_lt (nat_list_cmp_total.antisymm b a ∙ ap ordering_reverse (is_less _ (each_next-at (λ m n. is_before m.key n.key) ms k d h (omega arith)))))
+
+pub find_found : (ms : List (Member Tree)) (key : List ℕ) (at : ℕ) (x : Member Tree) → NamesRise ms → at < length ms → HoldsAt (λ m. slice_cmp nat_cmp m.key key ≡ Equal) ms at → find (λ m. bytes_eq m.key key) ms ≡ Some (get_or ms at x)
+find_found ms key at x rise within equal =
+    let same : (get_or ms at x).key ≡ key = (bytes_eq-Decides (get_or ms at x).key key).0 (sym (is_eq-slice_cmp (get_or ms at x).key key) ∙ ap is_eq (equal x)) in
+    subst (λ (k : List ℕ). find (λ m. bytes_eq m.key k) ms ≡ Some (get_or ms at x)) same (find_at_name ms at x rise within)
+
+pub find_nowhere : (ms : List (Member Tree)) (key : List ℕ) (at : ℕ) → AllWithin (λ m. slice_cmp nat_cmp m.key key ≡ Less) ms 0 at → AllWithin (λ m. slice_cmp nat_cmp m.key key ≡ Greater) ms at (length ms) → find (λ m. bytes_eq m.key key) ms ≡ None
+find_nowhere ms key at low high =
+    find_absent ms key (λ k d l. sym (is_eq-slice_cmp (get_or ms k d).key key) ∙ elim (cases_lt k at) [ inl h ↦ ap is_eq (low k d (omega arith) h) | inr h ↦ ap is_eq (high k d h l) ])

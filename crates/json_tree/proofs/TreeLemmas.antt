@@ -1,0 +1,143 @@
+-- One equation for each variant of a tree, for each definition by cases on it.
+use Rattle.std.proofs.Common.{◌≡◌, ℕ, Bool, true, ◌&&◌, ◌==◌, nat_lt, List, [], ◌∷◌, map, Option, Some, None, option_map, option_and_then, find, refl, sym, ap, ◌∙◌}
+use Rattle.std.specs.List.{list_all}
+use Rattle.std.specs.Str.{bytes_eq}
+use Rattle.std.proofs.lemmas.List.Folds.{list_all-map}
+use Rattle.json_tree.specs.declared.tree.Tree.{Tree, fold-Tree, fold-roll-Tree, out-Tree, roll-Tree, roll-out-Tree}
+use Rattle.json_tree.specs.declared.tree.Tree.TheOpen.{Tree-F}
+use Rattle.json_tree.specs.declared.tree.Tree.TheVariants as v
+use Rattle.json_tree.specs.declared.tree.Item.{Item}
+use Rattle.json_tree.specs.declared.tree.Member.{Member}
+use Rattle.json_tree.specs.declared.place.Step.{Step}
+use Rattle.json_tree.specs.declared.place.Step.TheVariants.{Key, At}
+use Rattle.json_tree.specs.Trees.{each_next, is_before, lawful_step, is_lawful}
+use Rattle.json_tree.specs.Places.{child_in, child_of, text_in, text_of, members_in, members_of, names_in, names_at}
+use Rattle.json_tree.proofs.Rising.{each_next-map, left_of, right_of, both_hold}
+
+-- ---- is_lawful
+
+pub is_lawful-Null : is_lawful v.Null ≡ true
+is_lawful-Null = ap is_lawful (sym v.rolls-Null) ∙ fold-roll-Tree Bool lawful_step Tree-F.Null
+
+pub is_lawful-Bool : (b : Bool) → is_lawful (v.Bool b) ≡ true
+is_lawful-Bool b = ap is_lawful (sym (v.rolls-Bool b)) ∙ fold-roll-Tree Bool lawful_step (Tree-F.Bool b)
+
+pub is_lawful-Number : is_lawful v.Number ≡ true
+is_lawful-Number = ap is_lawful (sym v.rolls-Number) ∙ fold-roll-Tree Bool lawful_step Tree-F.Number
+
+pub is_lawful-Text : (text : List ℕ) → is_lawful (v.Text text) ≡ true
+is_lawful-Text text = ap is_lawful (sym (v.rolls-Text text)) ∙ fold-roll-Tree Bool lawful_step (Tree-F.Text text)
+
+pub is_lawful-List : (items : List (Item Tree)) → is_lawful (v.List items) ≡ (each_next (λ i j. nat_lt i.at j.at) items && list_all (λ i. is_lawful i.value) items)
+is_lawful-List items =
+    let seen : Item Tree → Item Bool = λ i. record { at = i.at; value = is_lawful i.value } in
+    let rising : each_next (λ i j. nat_lt i.at j.at) (map seen items) ≡ each_next (λ i j. nat_lt i.at j.at) items = each_next-map seen (λ i j. nat_lt i.at j.at) items in
+    let all : list_all (λ (i : Item Bool). i.value) (map seen items) ≡ list_all (λ i. is_lawful i.value) items = list_all-map (λ (i : Item Bool). i.value) seen items in
+    ap is_lawful (sym (v.rolls-List items)) ∙ fold-roll-Tree Bool lawful_step (Tree-F.List items) ∙ (λ k. rising k && all k)
+
+pub is_lawful-Object : (members : List (Member Tree)) → is_lawful (v.Object members) ≡ (each_next (λ m n. is_before m.key n.key) members && list_all (λ m. is_lawful m.value) members)
+is_lawful-Object members =
+    let seen : Member Tree → Member Bool = λ m. record { key = m.key; value = is_lawful m.value } in
+    let rising : each_next (λ m n. is_before m.key n.key) (map seen members) ≡ each_next (λ m n. is_before m.key n.key) members = each_next-map seen (λ m n. is_before m.key n.key) members in
+    let all : list_all (λ (m : Member Bool). m.value) (map seen members) ≡ list_all (λ m. is_lawful m.value) members = list_all-map (λ (m : Member Bool). m.value) seen members in
+    ap is_lawful (sym (v.rolls-Object members)) ∙ fold-roll-Tree Bool lawful_step (Tree-F.Object members) ∙ (λ k. rising k && all k)
+
+-- the parts of a lawful object and of a lawful list
+pub members_rise : (t : Tree) (members : List (Member Tree)) → is_lawful t ≡ true → t ≡ v.Object members → each_next (λ m n. is_before m.key n.key) members ≡ true
+members_rise t members lawful is = left_of _ _ (sym (is_lawful-Object members) ∙ ap is_lawful (sym is) ∙ lawful)
+
+pub members_lawful : (t : Tree) (members : List (Member Tree)) → is_lawful t ≡ true → t ≡ v.Object members → list_all (λ m. is_lawful m.value) members ≡ true
+members_lawful t members lawful is = right_of _ _ (sym (is_lawful-Object members) ∙ ap is_lawful (sym is) ∙ lawful)
+
+pub items_rise : (t : Tree) (items : List (Item Tree)) → is_lawful t ≡ true → t ≡ v.List items → each_next (λ i j. nat_lt i.at j.at) items ≡ true
+items_rise t items lawful is = left_of _ _ (sym (is_lawful-List items) ∙ ap is_lawful (sym is) ∙ lawful)
+
+pub items_lawful : (t : Tree) (items : List (Item Tree)) → is_lawful t ≡ true → t ≡ v.List items → list_all (λ i. is_lawful i.value) items ≡ true
+items_lawful t items lawful is = right_of _ _ (sym (is_lawful-List items) ∙ ap is_lawful (sym is) ∙ lawful)
+
+-- ---- child_of
+
+pub child_of-Null : (step : Step) → child_of v.Null step ≡ None
+child_of-Null step = ap (λ x. child_in x step) v.outs-Null
+
+pub child_of-Bool : (b : Bool) (step : Step) → child_of (v.Bool b) step ≡ None
+child_of-Bool b step = ap (λ x. child_in x step) (v.outs-Bool b)
+
+pub child_of-Number : (step : Step) → child_of v.Number step ≡ None
+child_of-Number step = ap (λ x. child_in x step) v.outs-Number
+
+pub child_of-Text : (text : List ℕ) (step : Step) → child_of (v.Text text) step ≡ None
+child_of-Text text step = ap (λ x. child_in x step) (v.outs-Text text)
+
+pub child_of-List-At : (items : List (Item Tree)) (at : ℕ) → child_of (v.List items) (At at) ≡ option_map (λ i. i.value) (find (λ i. i.at == at) items)
+child_of-List-At items at = ap (λ x. child_in x (At at)) (v.outs-List items)
+
+pub child_of-List-Key : (items : List (Item Tree)) (key : List ℕ) → child_of (v.List items) (Key key) ≡ None
+child_of-List-Key items key = ap (λ x. child_in x (Key key)) (v.outs-List items)
+
+pub child_of-Object-Key : (members : List (Member Tree)) (key : List ℕ) → child_of (v.Object members) (Key key) ≡ option_map (λ m. m.value) (find (λ m. bytes_eq m.key key) members)
+child_of-Object-Key members key = ap (λ x. child_in x (Key key)) (v.outs-Object members)
+
+pub child_of-Object-At : (members : List (Member Tree)) (at : ℕ) → child_of (v.Object members) (At at) ≡ None
+child_of-Object-At members at = ap (λ x. child_in x (At at)) (v.outs-Object members)
+
+-- ---- names_at, text_of and members_of
+
+pub names_at-Null : names_at [] v.Null ≡ None
+names_at-Null = ap names_in v.outs-Null
+
+pub names_at-Bool : (b : Bool) → names_at [] (v.Bool b) ≡ None
+names_at-Bool b = ap names_in (v.outs-Bool b)
+
+pub names_at-Number : names_at [] v.Number ≡ None
+names_at-Number = ap names_in v.outs-Number
+
+pub names_at-Text : (text : List ℕ) → names_at [] (v.Text text) ≡ None
+names_at-Text text = ap names_in (v.outs-Text text)
+
+pub names_at-List : (items : List (Item Tree)) → names_at [] (v.List items) ≡ None
+names_at-List items = ap names_in (v.outs-List items)
+
+pub names_at-Object : (members : List (Member Tree)) → names_at [] (v.Object members) ≡ Some (map (λ m. m.key) members)
+names_at-Object members = ap names_in (v.outs-Object members)
+
+pub text_of-Text : (text : List ℕ) → text_of (v.Text text) ≡ Some text
+text_of-Text text = ap text_in (v.outs-Text text)
+
+pub members_of-Object : (members : List (Member Tree)) → members_of (v.Object members) ≡ Some members
+members_of-Object members = ap members_in (v.outs-Object members)
+
+-- a tree that has a text is this text, and one that has members is an object of them
+is_text : (x : Tree-F Tree) (text : List ℕ) → text_in x ≡ Some text → x ≡ Tree-F.Text text
+is_text Tree-F.Null text h = absurd (cc)
+is_text (Tree-F.Bool b) text h = absurd (cc)
+is_text Tree-F.Number text h = absurd (cc)
+is_text (Tree-F.Text s) text h = cc
+is_text (Tree-F.List items) text h = absurd (cc)
+is_text (Tree-F.Object members) text h = absurd (cc)
+
+pub text_of-Some : (t : Tree) (text : List ℕ) → text_of t ≡ Some text → t ≡ v.Text text
+text_of-Some t text h = sym (roll-out-Tree t) ∙ ap roll-Tree (is_text (out-Tree t) text h) ∙ v.rolls-Text text
+
+is_object : (x : Tree-F Tree) (members : List (Member Tree)) → members_in x ≡ Some members → x ≡ Tree-F.Object members
+is_object Tree-F.Null members h = absurd (cc)
+is_object (Tree-F.Bool b) members h = absurd (cc)
+is_object Tree-F.Number members h = absurd (cc)
+is_object (Tree-F.Text s) members h = absurd (cc)
+is_object (Tree-F.List items) members h = absurd (cc)
+is_object (Tree-F.Object ms) members h = cc
+
+pub members_of-Some : (t : Tree) (members : List (Member Tree)) → members_of t ≡ Some members → t ≡ v.Object members
+members_of-Some t members h = sym (roll-out-Tree t) ∙ ap roll-Tree (is_object (out-Tree t) members h) ∙ v.rolls-Object members
+
+-- the names are those of the members
+names_of_members : (x : Tree-F Tree) → names_in x ≡ option_map (λ members. map (λ m. m.key) members) (members_in x)
+names_of_members Tree-F.Null = refl
+names_of_members (Tree-F.Bool b) = refl
+names_of_members Tree-F.Number = refl
+names_of_members (Tree-F.Text s) = refl
+names_of_members (Tree-F.List items) = refl
+names_of_members (Tree-F.Object ms) = refl
+
+pub names_at-members : (t : Tree) → names_at [] t ≡ option_map (λ members. map (λ m. m.key) members) (members_of t)
+names_at-members t = names_of_members (out-Tree t)
