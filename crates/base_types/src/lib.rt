@@ -6,10 +6,12 @@
 //! and `Boxed` are the kit's: a `Vec` and a `Box` by which a type may lead back to itself.
 #![tactic(auto)]
 
+mod laws;
 mod memory;
 mod sequence;
 mod text;
 
+pub use laws::{in_order_is_the_sorted_list, is_upto_is_the_order, rising_is_the_ordered_set};
 pub use memory::Memory;
 pub use sequence::Sequence;
 pub use sqlite_items::{Boxed, Items};

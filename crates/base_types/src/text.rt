@@ -4,6 +4,7 @@ ghost use Rattle.std.specs.Str.{IsUtf8};
 use crate::memory::Memory;
 use std::alloc::Global;
 use std::cmp::Ordering;
+use std::hash::{Hash, Hasher};
 use std::marker::Model;
 
 /// A text, which contracts see as the list of its UTF-8 bytes.
@@ -139,5 +140,19 @@ impl Ord for Text {
 
     fn cmp(&self, other: &Text) -> Ordering {
         self.text.cmp(&other.text)
+    }
+}
+
+impl Hash for Text {
+    ghost use Rattle.std.specs.Hash as fed;
+    ghost use Rattle.std.specs.Cmp.Rules.{hashing};
+    ghost use Rattle.std.proofs.Common.{rules};
+
+    ghost hash_input = { fed.str };
+
+    ghost respects_eq = { Prim.search (hashing, rules) };
+
+    fn hash<H: Hasher>(&self, state: &mut H) {
+        self.as_str().hash(state);
     }
 }
