@@ -1,4 +1,4 @@
-ghost use Rattle.std.specs.Prelude.{◌≡◌, [], ◌++◌, string_bytes, length, IfOk, OnOk, OnErr};
+ghost use Rattle.std.specs.Prelude.{◌≡◌, [], ◌++◌, string_bytes, encode_utf8, length, IfOk, OnOk, OnErr};
 ghost use Rattle.std.specs.Str.{IsUtf8};
 
 use crate::memory::Memory;
@@ -83,6 +83,15 @@ impl Text {
         ensures err { OnErr result (self.new ≡ self.old) }
     {
         self.text.push_str(more)?;
+        Ok(())
+    }
+
+    /// Puts `character` at the end. After a refusal the text is as before.
+    pub fn push(&mut self, character: char) -> Result<(), Memory>
+        ensures ok { OnOk result (self.new ≡ self.old ++ encode_utf8 character) }
+        ensures err { OnErr result (self.new ≡ self.old) }
+    {
+        self.text.push(character)?;
         Ok(())
     }
 }
