@@ -3,7 +3,8 @@ use Rattle.std.proofs.Common.{◌≡◌, ℕ, ◌+◌, ◌-◌, ◌<◌, ◌≤�
 use Rattle.std.proofs.Math.Seq.{take-add, take-length, drop-append_seam}
 use Rattle.std.proofs.lemmas.List.{take-append-drop, take-append-le, drop-drop, length-take-le}
 use Rattle.std.specs.Io.KnownBytes.{IsAtEnd}
-use Rattle.vc_io.specs.Bytes.{Gave, GaveFirst, HasRisen, IsAllOf, IsMoreThan, IsUsedUp, Wrote, WrotePrefix}
+use Rattle.base_types.specs.Counts.{HasRisen}
+use Rattle.vc_io.specs.Bytes.{Gave, GaveFirst, IsAllOf, IsMoreThan, IsUsedUp, Wrote, WrotePrefix}
 
 -- a rise after a stretch without a fall is a rise over the whole
 pub HasRisen-from : (a b c : ℕ) → a ≤ b → HasRisen b c → HasRisen a c

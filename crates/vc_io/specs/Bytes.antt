@@ -1,15 +1,7 @@
 -- The bytes that a source still gives and those that a sink has taken, and how often either failed.
 -- An object tells its bytes (`Some`) or does not (`None`); of bytes that are not told nothing is claimed.
-use Rattle.std.specs.Prelude.{◌≡◌, ℕ, ◌+◌, ◌-◌, ◌^◌, ◌<◌, ◌⊎◌, min, List, [], length, take, drop, ⊤, Option, None, Some}
+use Rattle.std.specs.Prelude.{◌≡◌, ℕ, ◌<◌, List, [], length, take, drop, ⊤, Option, None, Some}
 use Rattle.std.specs.Io.KnownBytes.{Appends, Consumes}
-
--- a count of 64 bits rose: it is greater at the end, or it stands at its greatest value, where it stays
-abbrev pub HasRisen : ℕ → ℕ → Type 0
-HasRisen old new = (old < new) ⊎ (new ≡ 2 ^ 64 - 1)
-
--- one more in a count of 64 bits, which stays at its greatest value
-abbrev pub one_more : ℕ → ℕ
-one_more n = min (n + 1) (2 ^ 64 - 1)
 
 -- the source gave these bytes: they are the first of those that were left, and the rest is left
 abbrev pub Gave : Option (List ℕ) → Option (List ℕ) → List ℕ → Type 0

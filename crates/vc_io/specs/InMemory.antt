@@ -1,6 +1,6 @@
 -- A source over bytes in memory and a sink into memory, which fail at chosen calls.
 use Rattle.std.specs.Prelude.{ℕ, ◌-◌, ◌<◌, ◌≤◌, ◌⊎◌, min, max, List, ◌++◌, length, drop, Contains}
-use Rattle.vc_io.specs.Bytes.{one_more}
+use Rattle.base_types.specs.Counts.{one_more}
 
 -- how many bytes a call moves: as many as it can, at most a piece of at least one byte
 abbrev pub moved_count : ℕ → ℕ → ℕ → ℕ

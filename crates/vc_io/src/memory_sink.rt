@@ -1,5 +1,6 @@
 ghost use Rattle.std.specs.Prelude.{◌≡◌, [], ◌<◌, ◌≤◌, ◌↔◌, length, take, Some, IfOk, OnErr, IsErr};
-ghost use Rattle.vc_io.specs.Bytes.{HasRisen, Wrote, WrotePrefix};
+ghost use Rattle.base_types.specs.Counts.{HasRisen};
+ghost use Rattle.vc_io.specs.Bytes.{Wrote, WrotePrefix};
 ghost use Rattle.vc_io.specs.InMemory.{WriteFails, write_count, after_write, after_failed_write};
 
 use crate::memory_source::move_count;

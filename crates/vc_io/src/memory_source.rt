@@ -1,6 +1,7 @@
 ghost use Rattle.std.specs.Prelude.{◌≡◌, ◌<◌, ◌≤◌, ◌↔◌, ◌++◌, length, take, drop, Some, IfOk, OnErr, IsErr};
 ghost use Rattle.std.specs.Io.KnownBytes.{IsAtEnd};
-ghost use Rattle.vc_io.specs.Bytes.{Gave, HasRisen};
+ghost use Rattle.base_types.specs.Counts.{HasRisen};
+ghost use Rattle.vc_io.specs.Bytes.{Gave};
 ghost use Rattle.vc_io.specs.InMemory.{moved_count, ReadFails, read_count, after_read, after_failed_read};
 
 use crate::source::{Failed, Source};

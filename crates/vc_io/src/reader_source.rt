@@ -1,6 +1,7 @@
 ghost use Rattle.std.specs.Prelude.{◌≡◌, ◌<◌, ◌≤◌, [], length, take, IfOk, OnOk, OnErr};
 ghost use Rattle.std.specs.Io.KnownBytes.{IsAtEnd};
-ghost use Rattle.vc_io.specs.Bytes.{Gave, HasRisen, one_more};
+ghost use Rattle.base_types.specs.Counts.{HasRisen, one_more};
+ghost use Rattle.vc_io.specs.Bytes.{Gave};
 ghost use Rattle.vc_io.specs.Adapters.{reader_of, read_faults};
 
 use crate::source::{Failed, Source};

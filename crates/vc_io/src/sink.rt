@@ -1,5 +1,6 @@
 ghost use Rattle.std.specs.Prelude.{ℕ, List, Option, ◌<◌, ◌≤◌, length, take, IfOk, OnOk, OnErr};
-ghost use Rattle.vc_io.specs.Bytes.{HasRisen, Wrote, WrotePrefix};
+ghost use Rattle.base_types.specs.Counts.{HasRisen};
+ghost use Rattle.vc_io.specs.Bytes.{Wrote, WrotePrefix};
 
 use crate::source::Failed;
 

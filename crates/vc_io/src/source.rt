@@ -1,6 +1,7 @@
 ghost use Rattle.std.specs.Prelude.{◌≡◌, ℕ, List, Option, ◌+◌, ◌<◌, ◌≤◌, length, take, Err, IfOk, OnOk, OnErr, IsErrOf};
 ghost use Rattle.std.specs.Io.KnownBytes.{IsAtEnd};
-ghost use Rattle.vc_io.specs.Bytes.{Gave, GaveFirst, HasRisen, IsAllOf, IsMoreThan, IsUsedUp};
+ghost use Rattle.base_types.specs.Counts.{HasRisen};
+ghost use Rattle.vc_io.specs.Bytes.{Gave, GaveFirst, IsAllOf, IsMoreThan, IsUsedUp};
 
 use base_types::Memory;
 use std::alloc::{AllocError, Global};

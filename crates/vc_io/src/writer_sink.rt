@@ -1,5 +1,6 @@
 ghost use Rattle.std.specs.Prelude.{◌≡◌, ◌<◌, ◌≤◌, [], length, take, IfOk, OnOk, OnErr};
-ghost use Rattle.vc_io.specs.Bytes.{HasRisen, Wrote, WrotePrefix, one_more};
+ghost use Rattle.base_types.specs.Counts.{HasRisen, one_more};
+ghost use Rattle.vc_io.specs.Bytes.{Wrote, WrotePrefix};
 ghost use Rattle.vc_io.specs.Adapters.{writer_of, write_faults};
 
 use crate::sink::Sink;
