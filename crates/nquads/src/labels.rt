@@ -1,12 +1,69 @@
-use base_types::{Sequence, Text};
+ghost use Rattle.std.specs.Prelude.{◌≡◌, ℕ, List, [], ◌∷◌, ◌++◌, None, length, slice_get, OnOk, OnErr};
+ghost use Rattle.std.specs.Option.{option_copied, option_map};
+ghost use Rattle.nquads.specs.Texts.{find_label, label};
 
+use base_types::{Memory, Text};
+use indexmap::IndexMap;
+use std::alloc::Global;
+use std::marker::Model;
+
+/// The label of a blank node: the text by which statements name it, and its label in a line.
 #[derive(Clone, Debug, Drop)]
 pub struct TextLabel {
     pub blank: Text,
     pub text: Text,
 }
 
+/// Labels in the order in which they were put in, found by hash. No blank node has two.
 #[derive(Debug, Drop)]
 pub struct TextLabels {
-    pub list: Sequence<TextLabel>,
+    labels: IndexMap<String, Text>,
+}
+
+impl Model for TextLabels {
+    ghost use Rattle.std.specs.Prelude.{List, map, string_bytes};
+    ghost use Rattle.nquads.specs.declared.labels.TextLabel.{TextLabel};
+    ghost use Rattle.nquads.specs.Texts.{label};
+
+    ghost Value = { List TextLabel };
+
+    ghost view = { λ ls. map (λ e. label (string_bytes e.0) e.1) ls.labels.entries };
+}
+
+impl TextLabels {
+    /// No labels. It takes no memory.
+    pub fn new(alloc: Global) -> TextLabels
+        ensures { result ≡ [] }
+    {
+        TextLabels {
+            labels: IndexMap::new(alloc),
+        }
+    }
+
+    /// Labels a blank node that has no label yet. After a refusal the labels are as before.
+    ///
+    /// # Errors
+    ///
+    /// `Memory`: there is no memory for the label.
+    pub fn push(&mut self, blank: Text, text: Text) -> Result<(), Memory>
+        requires { find_label self.old blank ≡ None }
+        ensures ok { OnOk result (self.new ≡ self.old ++ label blank text ∷ []) }
+        ensures err { OnErr result (self.new ≡ self.old) }
+    {
+        drop(self.labels.insert(blank.into_string(), text)?);
+        Ok(())
+    }
+
+    /// The label of the blank node that statements name `blank`.
+    pub fn get(&self, blank: &str) -> Option<&Text>
+        ensures { option_copied result ≡ find_label self.now blank.now }
+    {
+        self.labels.get(blank)
+    }
+
+    pub fn len(&self) -> usize
+        ensures { result ≡ length self.now }
+    {
+        self.labels.len()
+    }
 }

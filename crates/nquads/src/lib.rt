@@ -1,9 +1,19 @@
-//! Statements as texts, and canonical N-Quads.
+//! Statements as texts, and canonical N-Quads (RDF 1.1 N-Quads; RDF Dataset Canonicalization, the
+//! canonical form).
+//!
+//! A statement is kept as the spellings of its parts (`TextQuad`), and a dataset as a list of these
+//! without repeats (`TextQuads`). A blank node gets a label of its own (`TextLabels`) when lines are
+//! written. `specs/` says what terms, statements and datasets are, when two datasets are the same up
+//! to the names of blank nodes, and what a canonical line and text are.
 #![tactic(auto)]
 
 mod labels;
+mod lines;
 mod quads;
+mod spelling;
 
 pub use base_types::{Memory, Sequence, Text};
 pub use labels::{TextLabel, TextLabels};
+pub use lines::{line_of, text_of};
 pub use quads::{TextQuad, TextQuads};
+pub use spelling::{iri, literal};

@@ -1,0 +1,4 @@
+pub mod EscapeLemmas
+pub mod LabelLemmas
+pub mod LineLemmas
+pub mod QuadLemmas

@@ -1,0 +1,59 @@
+-- The line of a spelled statement is the statement's line, and a sort of all lines, with equal
+-- neighbours dropped, gives the canonical lines.
+use Rattle.std.proofs.Common.{◌≡◌, ℕ, List, [], ◌∷◌, ◌++◌, map, refl, sym, ap, ◌∙◌, Option, Some, None, append_assoc, append-nil, option_map, ◌+◌, ◌<◌, length, get_or, take}
+use Rattle.std.specs.List.{concat}
+use Rattle.std.specs.List.Retain.{IsFiltered, DiffersFromLast}
+use Rattle.std.specs.List.Sorted.{IsPermutation, IsSorted}
+use Rattle.std.specs.Str.{bytes_eq}
+use Rattle.std.specs.Cmp.Lexicographic.{slice_cmp}
+use Rattle.std.specs.Ordering.{nat_cmp}
+use Rattle.std.proofs.lemmas.List.Filters.{dedup_is}
+use Rattle.std.proofs.lemmas.List.{take_more}
+use Rattle.base_types.specs.Order.{rising}
+use Rattle.base_types.specs.Sets.{SameElements}
+use Rattle.base_types.proofs.Lists.{SameElements-map}
+use Rattle.base_types.proofs.Rising.{rising-dedup, rising-free}
+use Rattle.nquads.specs.Terms.{Term, iri, literal, blank, Statement}
+use Rattle.nquads.specs.Spelling.{spelling, spelled}
+use Rattle.nquads.specs.Lines.{term_text, graph_text, line, canonical_lines}
+use Rattle.nquads.specs.Texts.{label_in, part_text, graph_part_text, text_line}
+use Rattle.nquads.specs.declared.labels.TextLabel.{TextLabel}
+use Rattle.nquads.specs.declared.quads.TextQuad.{TextQuad}
+
+module _ (labels : List TextLabel) where
+  part_text-spelling : (t : Term) → part_text labels (spelling t) ≡ term_text (label_in labels) t
+  part_text-spelling (iri text) = refl
+  part_text-spelling (literal text datatype language) = refl
+  part_text-spelling (blank b) = refl
+
+  graph_part_text-spelling : (g : Option Term) → graph_part_text labels (option_map spelling g) ≡ graph_text (label_in labels) g
+  graph_part_text-spelling None = refl
+  graph_part_text-spelling (Some g) = ap (λ t. t ++ 32 ∷ []) (part_text-spelling g)
+
+  pub text_line-spelled : (s : Statement) → text_line labels (spelled s) ≡ line (label_in labels) s
+  text_line-spelled s = rw (part_text-spelling s.subject, part_text-spelling s.object, graph_part_text-spelling s.graph) refl
+
+  text_lines-spelled : (q : List Statement) → map (text_line labels) (map spelled q) ≡ map (line (label_in labels)) q
+  text_lines-spelled [] = refl
+  text_lines-spelled (s ∷ ss) = let first = text_line-spelled s in let rest = text_lines-spelled ss in λ i. first i ∷ rest i
+
+  pub rising-text_lines : (quads : List TextQuad) (q : List Statement) → SameElements quads (map spelled q) → rising (map (text_line labels) quads) ≡ canonical_lines (label_in labels) q
+  rising-text_lines quads q same =
+      rising-free (map (text_line labels) quads) (map (text_line labels) (map spelled q)) (SameElements-map (text_line labels) quads (map spelled q) same)
+      ∙ ap rising (text_lines-spelled q)
+
+  -- what `text_of` joins
+  pub kept-canonical : (quads : List TextQuad) (lines up kept : List (List ℕ)) (q : List Statement) → lines ≡ map (text_line labels) quads → IsPermutation lines up → IsSorted (slice_cmp nat_cmp) up → IsFiltered (DiffersFromLast bytes_eq) [] up kept → SameElements quads (map spelled q) → kept ≡ canonical_lines (label_in labels) q
+  kept-canonical quads lines up kept q made moved sorted filtered same =
+      dedup_is bytes_eq up kept filtered ∙ rising-dedup lines up moved sorted ∙ ap rising made ∙ rising-text_lines quads q same
+
+pub concat-push : (lines : List (List ℕ)) (l : List ℕ) → concat (lines ++ l ∷ []) ≡ concat lines ++ l
+concat-push [] l = append-nil l
+concat-push (m ∷ ms) l = ap (λ t. m ++ t) (concat-push ms l) ∙ sym (append_assoc m (concat ms) l)
+
+pub concat-more : (lines : List (List ℕ)) (i : ℕ) (l : List ℕ) → i < length lines → l ≡ get_or lines i l → concat (take (i + 1) lines) ≡ concat (take i lines) ++ l
+concat-more lines i l in' is = ap concat (take_more lines i l in' ∙ ap (λ m. take i lines ++ m ∷ []) (sym is)) ∙ concat-push (take i lines) l
+
+-- a line, put together piece by piece
+pub assembled : (labels : List TextLabel) (quad : TextQuad) (n p a b c d e f g h : List ℕ) → n ≡ [] → a ≡ n ++ part_text labels quad.subject → b ≡ a ++ 32 ∷ [] → p ≡ quad.predicate → c ≡ b ++ p → d ≡ c ++ 32 ∷ [] → e ≡ d ++ part_text labels quad.object → f ≡ e ++ 32 ∷ [] → g ≡ f ++ graph_part_text labels quad.graph → h ≡ g ++ 46 ∷ 10 ∷ [] → h ≡ text_line labels quad
+assembled labels quad n p a b c d e f g h en ea eb ep ec ed ee ef eg eh = rw (eh, eg, ef, ee, ed, ec, ep, eb, ea, en) (simp append_assoc)
