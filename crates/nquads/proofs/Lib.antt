@@ -2,3 +2,10 @@ pub mod EscapeLemmas
 pub mod LabelLemmas
 pub mod LineLemmas
 pub mod QuadLemmas
+pub mod ReadingTexts
+pub mod ReadingEscapes
+pub mod ReadingTerms
+pub mod ReadingLines
+pub mod ReadingElements
+pub mod ReadingDatasets
+pub mod ReadingRenamings

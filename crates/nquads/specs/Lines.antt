@@ -3,7 +3,7 @@ use Rattle.std.specs.Prelude.{◌≡◌, ℕ, List, [], ◌∷◌, ◌++◌, map
 use Rattle.std.specs.List.{concat}
 use Rattle.base_types.specs.Order.{rising}
 use Rattle.nquads.specs.Terms.{Blank, by_label, Term, iri, literal, blank, Statement, IsLabel}
-use Rattle.nquads.specs.Renaming.{rename, blanks_of}
+use Rattle.nquads.specs.Renaming.{rename, blanks_of, StandsIn}
 use Rattle.nquads.specs.Spelling.{iri_text, literal_text}
 
 -- a term in a line: a blank node is `_:` and its label
@@ -42,3 +42,7 @@ labelled label s = rename (λ b. record { kind = by_label; name = label b }) s
 -- each blank node of the statement has a label in its grammar
 abbrev pub HasLabels : (Blank → List ℕ) → Statement → Type 0
 HasLabels label s = (b : Blank) → Contains (blanks_of s) b → IsLabel (label b)
+
+-- no two blank nodes of the dataset have one label
+abbrev pub LabelsDiffer : (Blank → List ℕ) → List Statement → Type 0
+LabelsDiffer label q = (a b : Blank) → StandsIn q a → StandsIn q b → label a ≡ label b → a ≡ b

@@ -1,6 +1,7 @@
 -- Renamings of blank nodes, and datasets that are the same up to their names.
 -- RDF 1.1 Concepts, 3.6 (graph isomorphism) and 4.1 (dataset isomorphism).
-use Rattle.std.specs.Prelude.{List, [], ◌∷◌, ◌++◌, Bool, true, false, ◌&&◌, map, All, Contains, Option, Some, None, option_map, if◌then◌else◌}
+use Rattle.std.specs.Prelude.{◌≡◌, List, [], ◌∷◌, ◌++◌, Bool, true, false, ◌&&◌, map, All, Contains, Option, Some, None, option_map, if◌then◌else◌}
+use Rattle.std.specs.List.{flat_map}
 use Rattle.std.specs.Str.{bytes_eq}
 use Rattle.base_types.specs.Sets.{AllDiffer, SameElements}
 use Rattle.nquads.specs.Terms.{BlankKind, by_label, by_node, by_graph, by_cell, Blank, Term, iri, literal, blank, Statement}
@@ -29,6 +30,10 @@ blanks_of_graph (Some g) = blanks_of_term g
 abbrev pub blanks_of : Statement → List Blank
 blanks_of s = blanks_of_term s.subject ++ (blanks_of_term s.object ++ blanks_of_graph s.graph)
 
+-- the blank node stands in a statement of the dataset
+abbrev pub StandsIn : List Statement → Blank → Type 0
+StandsIn q b = Contains (flat_map blanks_of q) b
+
 -- a term and a statement with each blank node replaced
 abbrev pub rename_term : (Blank → Blank) → Term → Term
 rename_term f (iri text) = iri text
@@ -37,6 +42,10 @@ rename_term f (blank b) = blank (f b)
 
 abbrev pub rename : (Blank → Blank) → Statement → Statement
 rename f s = record { subject = rename_term f s.subject; predicate = s.predicate; object = rename_term f s.object; graph = option_map (rename_term f) s.graph }
+
+-- no two blank nodes of the dataset are sent to one
+abbrev pub IsOneToOne : (Blank → Blank) → List Statement → Type 0
+IsOneToOne f q = (a b : Blank) → StandsIn q a → StandsIn q b → f a ≡ f b → a ≡ b
 
 -- one blank node and the one that takes its place
 pub record Pair : Type 0 where

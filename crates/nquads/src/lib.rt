@@ -4,10 +4,12 @@
 //! A statement is kept as the spellings of its parts (`TextQuad`), and a dataset as a list of these
 //! without repeats (`TextQuads`). A blank node gets a label of its own (`TextLabels`) when lines are
 //! written. `specs/` says what terms, statements and datasets are, when two datasets are the same up
-//! to the names of blank nodes, and what a canonical line and text are.
+//! to the names of blank nodes, and what a canonical line and text are. `laws` has what holds of
+//! these: spellings, lines and texts have one reading.
 #![tactic(auto)]
 
 mod labels;
+pub mod laws;
 mod lines;
 mod quads;
 mod spelling;
