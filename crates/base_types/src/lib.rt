@@ -6,12 +6,11 @@
 //! and `Boxed` are the kit's: a `Vec` and a `Box` by which a type may lead back to itself.
 #![tactic(auto)]
 
-mod laws;
+pub mod laws;
 mod memory;
 mod sequence;
 mod text;
 
-pub use laws::{in_order_is_the_sorted_list, is_upto_is_the_order, rising_is_the_ordered_set};
 pub use memory::Memory;
 pub use sequence::Sequence;
 pub use sqlite_items::{Boxed, Items};

@@ -1,9 +1,7 @@
 -- A canonical text determines its lines, and its lines the labelled statements.
-use Rattle.std.proofs.Common.{◌≡◌, ◌↔◌, ℕ, List, [], ◌∷◌, ◌++◌, inl, inr, flat_map, map, All, Contains, refl, sym, ap, ◌∙◌, subst}
+use Rattle.std.proofs.Common.{◌≡◌, ℕ, List, [], ◌∷◌, inl, inr, flat_map, map, All, Contains, sym, ◌∙◌, subst}
 use Rattle.std.proofs.lemmas.List.Elements.{All-contains, Contains-append_left, Contains-append_right}
-use Rattle.std.specs.List.{concat}
 use Rattle.base_types.specs.Sets.{SameElements}
-use Rattle.base_types.specs.Order.{rising}
 use Rattle.nquads.specs.Terms.{Blank, Statement, IsStatement}
 use Rattle.nquads.specs.Renaming.{blanks_of, StandsIn}
 use Rattle.nquads.specs.Lines.{line, labelled, HasLabels, IsLine, LabelsDiffer, canonical_lines, canonical_text}
@@ -19,8 +17,8 @@ from_canonical_lines f q l m = from_map (line f) q l (from_rising (map (line f) 
 pub canonical_lines_are_lines : (f : Blank → List ℕ) (q : List Statement) → All IsStatement q → All (HasLabels f) q → All IsLine (canonical_lines f q)
 canonical_lines_are_lines f q i h =
     All-from_contains IsLine (canonical_lines f q)
-      (λ l m. let r = from_canonical_lines f q l m in
-        subst IsLine r.2 (IsLine-line f r.0 (All-contains IsStatement q r.0 i r.1) (All-contains (HasLabels f) q r.0 h r.1)))
+    (λ l m. let r = from_canonical_lines f q l m in
+    subst IsLine r.2 (IsLine-line f r.0 (All-contains IsStatement q r.0 i r.1) (All-contains (HasLabels f) q r.0 h r.1)))
 
 pub text_determines_lines : (f g : Blank → List ℕ) (q r : List Statement) → All IsStatement q → All IsStatement r → All (HasLabels f) q → All (HasLabels g) r → canonical_text f q ≡ canonical_text g r → canonical_lines f q ≡ canonical_lines g r
 text_determines_lines f g q r i j p n e =
@@ -42,10 +40,11 @@ pub StandsIn-from_statement : (q : List Statement) (s : Statement) (b : Blank) �
 StandsIn-from_statement [] s b m n = absurd (none_in_nil s m)
 StandsIn-from_statement (t ∷ q) s b m n =
     elim (head_or_tail t q s m) [
-      inl e ↦ Contains-append_left (blanks_of t) (flat_map blanks_of q) b (subst (λ (z : Statement). Contains (blanks_of z) b) (sym e) n)
-    | inr k ↦ Contains-append_right (blanks_of t) (flat_map blanks_of q) b (StandsIn-from_statement q s b k n) ]
+      | inl e ↦ Contains-append_left (blanks_of t) (flat_map blanks_of q) b (subst (λ (z : Statement). Contains (blanks_of z) b) (sym e) n)
+      | inr k ↦ Contains-append_right (blanks_of t) (flat_map blanks_of q) b (StandsIn-from_statement q s b k n)
+    ]
 
 pub line_names_statement_in : (f : Blank → List ℕ) (q : List Statement) → All IsStatement q → All (HasLabels f) q → LabelsDiffer f q → (s t : Statement) → Contains q s → Contains q t → line f s ≡ line f t → s ≡ t
 line_names_statement_in f q i p d s t m n e =
     line_names_statement f s t (All-contains IsStatement q s i m) (All-contains IsStatement q t i n) (All-contains (HasLabels f) q s p m) (All-contains (HasLabels f) q t p n)
-      (λ a b x y k. d a b (StandsIn-from_statement q s a m x) (StandsIn-from_statement q t b n y) k) e
+    (λ a b x y k. d a b (StandsIn-from_statement q s a m x) (StandsIn-from_statement q t b n y) k) e

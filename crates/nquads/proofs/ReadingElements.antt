@@ -1,5 +1,5 @@
 -- Elements of lists, for the laws of datasets.
-use Rattle.std.proofs.Common.{◌≡◌, ◌≢◌, ◌⊎◌, ◌↔◌, ℕ, zero, suc, ◌<◌, ◌≤◌, List, [], ◌∷◌, ◌++◌, length, map, get_or, All, Contains, AllPairs, Bool, true, false, refl, sym, ap, ◌∙◌, subst, inl, inr, zero-lt-suc, suc-le-suc, le_of_suc-le-suc, not-suc-le-zero, if◌then◌else◌, bytes_eq}
+use Rattle.std.proofs.Common.{◌≡◌, ◌≢◌, ◌⊎◌, ℕ, zero, suc, ◌<◌, List, [], ◌∷◌, length, map, get_or, All, Contains, Bool, true, false, refl, sym, ap, ◌∙◌, subst, inl, inr, zero-lt-suc, suc-le-suc, le_of_suc-le-suc, not-suc-le-zero, if◌then◌else◌, bytes_eq}
 use Rattle.std.proofs.lemmas.List.{get_or_default}
 use Rattle.std.proofs.lemmas.List.Elements.{Contains-get_or}
 use Rattle.std.proofs.lemmas.Slice.Eq.{bytes_eq-Decides}
@@ -28,15 +28,17 @@ pub Contains-map : {X Y : Type 0} (f : X → Y) (xs : List X) (x : X) → Contai
 Contains-map f [] x m = absurd (none_in_nil x m)
 Contains-map f (y ∷ xs) x m =
     elim (head_or_tail y xs x m) [
-      inl e ↦ subst (λ z. Contains (f y ∷ map f xs) z) (ap f e) (here (f y) (map f xs))
-    | inr n ↦ there (f y) (map f xs) (f x) (Contains-map f xs x n) ]
+      | inl e ↦ subst (λ z. Contains (f y ∷ map f xs) z) (ap f e) (here (f y) (map f xs))
+      | inr n ↦ there (f y) (map f xs) (f x) (Contains-map f xs x n)
+    ]
 
 pub from_map : {X Y : Type 0} (f : X → Y) (xs : List X) (y : Y) → Contains (map f xs) y → (x : X) × Contains xs x × (f x ≡ y)
 from_map f [] y m = absurd (none_in_nil y m)
 from_map f (x ∷ xs) y m =
     elim (head_or_tail (f x) (map f xs) y m) [
-      inl e ↦ (x, here x xs, e)
-    | inr n ↦ let r = from_map f xs y n in (r.0, there x xs r.0 r.1, r.2) ]
+      | inl e ↦ (x, here x xs, e)
+      | inr n ↦ let r = from_map f xs y n in (r.0, there x xs r.0 r.1, r.2)
+    ]
 
 -- ---- no element twice, by the head and the tail
 
@@ -62,10 +64,10 @@ pub AllDiffer-map : {X Y : Type 0} (f : X → Y) (xs : List X) → ((x y : X) �
 AllDiffer-map f [] o a = AllDiffer-nil
 AllDiffer-map f (x ∷ xs) o a =
     AllDiffer-cons (f x) (map f xs)
-      (λ m. let r = from_map f xs (f x) m in
-        let same : r.0 ≡ x = o r.0 x (there x xs r.0 r.1) (here x xs) r.2 in
-        AllDiffer-head x xs a (subst (λ z. Contains xs z) same r.1))
-      (AllDiffer-map f xs (λ y z m n e. o y z (there x xs y m) (there x xs z n) e) (AllDiffer-tail x xs a))
+    (λ m. let r = from_map f xs (f x) m in
+    let same : r.0 ≡ x = o r.0 x (there x xs r.0 r.1) (here x xs) r.2 in
+    AllDiffer-head x xs a (subst (λ z. Contains xs z) same r.1))
+    (AllDiffer-map f xs (λ y z m n e. o y z (there x xs y m) (there x xs z n) e) (AllDiffer-tail x xs a))
 
 -- ---- lists with the same elements
 
@@ -82,10 +84,11 @@ put_cases true b t u us ps x h m = inr m
 put_cases false true t u us ps x h m = head_or_tail t (u ∷ us) x m
 put_cases false false t u us ps x h m =
     elim (head_or_tail u ps x m) [
-      inl e ↦ inr (subst (λ z. Contains (u ∷ us) z) e (here u us))
-    | inr n ↦ elim (h n) [ inl e ↦ inl e | inr k ↦ inr (there u us x k) ] ]
+      | inl e ↦ inr (subst (λ z. Contains (u ∷ us) z) e (here u us))
+      | inr n ↦ elim (h n) [ inl e ↦ inl e | inr k ↦ inr (there u us x k) ]
+    ]
 
-from_put_once : (t : List ℕ) (us : List (List ℕ)) (x : List ℕ) → Contains (put_once t us) x → (t ≡ x) ⊎ Contains us x
+pub from_put_once : (t : List ℕ) (us : List (List ℕ)) (x : List ℕ) → Contains (put_once t us) x → (t ≡ x) ⊎ Contains us x
 from_put_once t [] x m = head_or_tail t [] x m
 from_put_once t (u ∷ us) x m = put_cases (bytes_eq t u) (is_upto t u) t u us (put_once t us) x (from_put_once t us x) m
 
@@ -94,8 +97,9 @@ put_keeps true b t u us ps x h m = m
 put_keeps false true t u us ps x h m = there t (u ∷ us) x m
 put_keeps false false t u us ps x h m =
     elim (head_or_tail u us x m) [
-      inl e ↦ subst (λ z. Contains (u ∷ ps) z) e (here u ps)
-    | inr n ↦ there u ps x (h n) ]
+      | inl e ↦ subst (λ z. Contains (u ∷ ps) z) e (here u ps)
+      | inr n ↦ there u ps x (h n)
+    ]
 
 put_once_keeps : (t : List ℕ) (us : List (List ℕ)) (x : List ℕ) → Contains us x → Contains (put_once t us) x
 put_once_keeps t [] x m = absurd (none_in_nil x m)
@@ -114,12 +118,14 @@ pub from_rising : (ts : List (List ℕ)) (x : List ℕ) → Contains (rising ts)
 from_rising [] x m = m
 from_rising (t ∷ ts) x m =
     elim (from_put_once t (rising ts) x m) [
-      inl e ↦ subst (λ z. Contains (t ∷ ts) z) e (here t ts)
-    | inr n ↦ there t ts x (from_rising ts x n) ]
+      | inl e ↦ subst (λ z. Contains (t ∷ ts) z) e (here t ts)
+      | inr n ↦ there t ts x (from_rising ts x n)
+    ]
 
 pub to_rising : (ts : List (List ℕ)) (x : List ℕ) → Contains ts x → Contains (rising ts) x
 to_rising [] x m = m
 to_rising (t ∷ ts) x m =
     elim (head_or_tail t ts x m) [
-      inl e ↦ subst (λ z. Contains (put_once t (rising ts)) z) e (put_once_adds t (rising ts))
-    | inr n ↦ put_once_keeps t (rising ts) x (to_rising ts x n) ]
+      | inl e ↦ subst (λ z. Contains (put_once t (rising ts)) z) e (put_once_adds t (rising ts))
+      | inr n ↦ put_once_keeps t (rising ts) x (to_rising ts x n)
+    ]

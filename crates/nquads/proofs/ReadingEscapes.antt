@@ -1,9 +1,9 @@
 -- A quoted text has one reading: a reader of one escaped byte, and what follows from it.
-use Rattle.std.proofs.Common.{◌≡◌, ◌≢◌, ℕ, ◌+◌, ◌-◌, ◌*◌, ◌/◌, ◌%◌, ◌<◌, ◌≤◌, List, [], ◌∷◌, ◌++◌, Bool, true, false, ◌==◌, ◌||◌, nat_lt, if◌then◌else◌, refl, sym, ap, ◌∙◌, arith, append_assoc, subst, ap₂, inl, inr, lit<}
-use Rattle.std.proofs.lemmas.Bool.{eqb-true, eqb-false, ne_eqb, ltb-true, ltb-false, lt-ltb, le-ltb, or_cases, or_parts}
+use Rattle.std.proofs.Common.{◌≡◌, ◌≢◌, ℕ, ◌+◌, ◌-◌, ◌*◌, ◌/◌, ◌%◌, ◌<◌, List, [], ◌∷◌, ◌++◌, Bool, true, false, ◌==◌, ◌||◌, nat_lt, if◌then◌else◌, refl, sym, ap, ◌∙◌, arith, append_assoc, subst, ap₂, inl, inr, lit<}
+use Rattle.std.proofs.lemmas.Bool.{eqb-true, eqb-false, ltb-true, ltb-false, lt-ltb, le-ltb, or_cases}
 use Rattle.std.specs.List.{flat_map}
 use Rattle.nquads.specs.Spelling.{hex_digit, escape}
-use Rattle.nquads.proofs.ReadingTexts.{Absent, Absent-append}
+use Rattle.nquads.proofs.ReadingTexts.{apart, Absent, Absent-append}
 
 abbrev digit_value : ℕ → ℕ
 digit_value h = if nat_lt h 60 then h - 48 else h - 55
@@ -72,13 +72,10 @@ read_byte-escape c r =
     branch c (c == 92) _ _ r (named c 92 92 r refl) (λ n7.
     branch c (nat_lt c 32 || (c == 127)) _ _ r (λ e. coded c r (small c e)) (λ n8. itself c r n7))))))))
 
-first_differs : (m n : ℕ) (xs ys : List ℕ) → (m == n) ≡ false → m ∷ xs ≡ n ∷ ys → ⊥
-first_differs m n xs ys d e = let same : m ≡ n = cc in eqb-false m n d same
-
 not_quote : (c : ℕ) (r u : List ℕ) → escape c ++ r ≡ 34 ∷ u → ⊥
 not_quote c r u e =
     let both : (c, r) ≡ (34, u) = sym (read_byte-escape c r) ∙ ap read_byte e in
-    first_differs 92 34 (34 ∷ r) u refl (subst (λ (k : ℕ). escape k ++ r ≡ 34 ∷ u) (ap (λ (p : ℕ × List ℕ). p.0) both) e)
+    apart 92 34 (34 ∷ r) u refl (subst (λ (k : ℕ). escape k ++ r ≡ 34 ∷ u) (ap (λ (p : ℕ × List ℕ). p.0) both) e)
 
 -- The quoted text and what follows it can be told from one another in one way only.
 pub quoted_one_reading : (xs ys r u : List ℕ) → flat_map escape xs ++ 34 ∷ r ≡ flat_map escape ys ++ 34 ∷ u → (xs ≡ ys) × (r ≡ u)
@@ -117,7 +114,7 @@ escape_absent c =
     if_absent 10 (c == 34) _ _ (two_marks 34 (lit< tt)) (λ n6.
     if_absent 10 (c == 92) _ _ (two_marks 92 (lit< tt)) (λ n7.
     if_absent 10 (nat_lt c 32 || (c == 127)) _ _ (omega arith, (omega arith, (omega arith, (omega arith, (hex_digit_above (c / 16), (hex_digit_above (c % 16), tt)))))) (λ n8.
-      ((λ e. eqb-false c 10 n3 (sym e)), tt)))))))))
+    ((λ e. eqb-false c 10 n3 (sym e)), tt)))))))))
 
 pub quoted_absent : (xs : List ℕ) → Absent 10 (flat_map escape xs)
 quoted_absent [] = tt

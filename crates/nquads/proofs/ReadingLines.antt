@@ -1,14 +1,14 @@
 -- A line has one reading, and a text made of lines is split into lines in one way.
-use Rattle.std.proofs.Common.{◌≡◌, ◌≢◌, ◌⊎◌, ◌↔◌, ℕ, zero, suc, ◌<◌, List, [], ◌∷◌, ◌++◌, length, map, All, Contains, Bool, true, false, refl, sym, ap, ap₂, ◌∙◌, arith, append_assoc, append-nil, subst, inl, inr, zero-lt-suc, Option, Some, None, IfSome, option_map, if◌then◌else◌, bytes_eq}
-use Rattle.std.proofs.lemmas.List.Elements.{All-head, All-tail, All-contains, Contains-append_left, Contains-append_right}
+use Rattle.std.proofs.Common.{◌≡◌, ℕ, zero, List, [], ◌∷◌, ◌++◌, All, Contains, Bool, true, false, refl, sym, ap, ap₂, ◌∙◌, arith, append_assoc, zero-lt-suc, Option, Some, None, IfSome, option_map, if◌then◌else◌, bytes_eq}
+use Rattle.std.proofs.lemmas.List.Elements.{All-head, All-tail, Contains-append_left, Contains-append_right}
 use Rattle.std.specs.List.{flat_map, concat}
-use Rattle.nquads.specs.Terms.{by_label, Blank, Term, iri, literal, blank, Statement, IsIri, IsLabel, IsTerm, IsResource, IsStatement, xsd_string}
-use Rattle.nquads.specs.Renaming.{blanks_of_term, blanks_of_graph, blanks_of, rename_term, rename}
-use Rattle.nquads.specs.Spelling.{escape, iri_text, literal_end, literal_text}
+use Rattle.nquads.specs.Terms.{Blank, Term, iri, literal, blank, Statement, IsIri, IsLabel, IsTerm, IsResource, IsStatement, xsd_string}
+use Rattle.nquads.specs.Renaming.{blanks_of_term, blanks_of_graph, blanks_of, rename_term}
+use Rattle.nquads.specs.Spelling.{escape, iri_text, literal_end}
 use Rattle.nquads.specs.Lines.{term_text, graph_text, line, labelled, HasLabels, IsLine}
-use Rattle.nquads.proofs.ReadingTexts.{Absent, Absent-append, Absent-contains, Absent-from, cut_once}
+use Rattle.nquads.proofs.ReadingTexts.{apart, Absent, Absent-append, Absent-contains, Absent-from, cut_once}
 use Rattle.nquads.proofs.ReadingEscapes.{quoted_absent}
-use Rattle.nquads.proofs.ReadingTerms.{named, apart, iri_then, term_then, IsTerm-from_resource, same_statement, iri_absent, label_absent, language_absent}
+use Rattle.nquads.proofs.ReadingTerms.{named, iri_then, term_then, IsTerm-from_resource, same_statement, iri_absent, label_absent, language_absent}
 
 -- ---- one line
 
@@ -43,19 +43,19 @@ unfolding after_object after_predicate after_subject
 line_one_reading f g s t i j p q e =
     let whole : term_text f s.subject ++ 32 ∷ after_subject f s ≡ term_text g t.subject ++ 32 ∷ after_subject g t = sym (in_parts f s) ∙ e ∙ in_parts g t in
     let subjects : (rename_term (named f) s.subject ≡ rename_term (named g) t.subject) × (after_subject f s ≡ after_subject g t) =
-      term_then f g s.subject t.subject (after_subject f s) (after_subject g t) (IsTerm-from_resource s.subject i.subject) (IsTerm-from_resource t.subject j.subject)
-        (λ b m. p b (Contains-append_left (blanks_of_term s.subject) (blanks_of_term s.object ++ blanks_of_graph s.graph) b m))
-        (λ b m. q b (Contains-append_left (blanks_of_term t.subject) (blanks_of_term t.object ++ blanks_of_graph t.graph) b m)) whole in
+    term_then f g s.subject t.subject (after_subject f s) (after_subject g t) (IsTerm-from_resource s.subject i.subject) (IsTerm-from_resource t.subject j.subject)
+    (λ b m. p b (Contains-append_left (blanks_of_term s.subject) (blanks_of_term s.object ++ blanks_of_graph s.graph) b m))
+    (λ b m. q b (Contains-append_left (blanks_of_term t.subject) (blanks_of_term t.object ++ blanks_of_graph t.graph) b m)) whole in
     let predicates : (s.predicate ≡ t.predicate) × (after_predicate f s ≡ after_predicate g t) =
-      iri_then s.predicate t.predicate (after_predicate f s) (after_predicate g t) i.predicate j.predicate subjects.1 in
+    iri_then s.predicate t.predicate (after_predicate f s) (after_predicate g t) i.predicate j.predicate subjects.1 in
     let objects : (rename_term (named f) s.object ≡ rename_term (named g) t.object) × (after_object f s ≡ after_object g t) =
-      term_then f g s.object t.object (after_object f s) (after_object g t) i.object j.object
-        (λ b m. p b (Contains-append_right (blanks_of_term s.subject) (blanks_of_term s.object ++ blanks_of_graph s.graph) b (Contains-append_left (blanks_of_term s.object) (blanks_of_graph s.graph) b m)))
-        (λ b m. q b (Contains-append_right (blanks_of_term t.subject) (blanks_of_term t.object ++ blanks_of_graph t.graph) b (Contains-append_left (blanks_of_term t.object) (blanks_of_graph t.graph) b m))) predicates.1 in
+    term_then f g s.object t.object (after_object f s) (after_object g t) i.object j.object
+    (λ b m. p b (Contains-append_right (blanks_of_term s.subject) (blanks_of_term s.object ++ blanks_of_graph s.graph) b (Contains-append_left (blanks_of_term s.object) (blanks_of_graph s.graph) b m)))
+    (λ b m. q b (Contains-append_right (blanks_of_term t.subject) (blanks_of_term t.object ++ blanks_of_graph t.graph) b (Contains-append_left (blanks_of_term t.object) (blanks_of_graph t.graph) b m))) predicates.1 in
     let graphs : option_map (rename_term (named f)) s.graph ≡ option_map (rename_term (named g)) t.graph =
-      graph_then f g s.graph t.graph (10 ∷ []) (10 ∷ []) i.graph j.graph
-        (λ b m. p b (Contains-append_right (blanks_of_term s.subject) (blanks_of_term s.object ++ blanks_of_graph s.graph) b (Contains-append_right (blanks_of_term s.object) (blanks_of_graph s.graph) b m)))
-        (λ b m. q b (Contains-append_right (blanks_of_term t.subject) (blanks_of_term t.object ++ blanks_of_graph t.graph) b (Contains-append_right (blanks_of_term t.object) (blanks_of_graph t.graph) b m))) objects.1 in
+    graph_then f g s.graph t.graph (10 ∷ []) (10 ∷ []) i.graph j.graph
+    (λ b m. p b (Contains-append_right (blanks_of_term s.subject) (blanks_of_term s.object ++ blanks_of_graph s.graph) b (Contains-append_right (blanks_of_term s.object) (blanks_of_graph s.graph) b m)))
+    (λ b m. q b (Contains-append_right (blanks_of_term t.subject) (blanks_of_term t.object ++ blanks_of_graph t.graph) b (Contains-append_right (blanks_of_term t.object) (blanks_of_graph t.graph) b m))) objects.1 in
     same_statement (labelled f s) (labelled g t) subjects.0 predicates.0 objects.0 graphs
 
 -- ---- where labels are one-to-one, the statement itself
@@ -92,16 +92,16 @@ graph_from_labelled f (Some a) (Some b) p e =
 pub statement_from_labelled : (f : Blank → List ℕ) (s t : Statement) → ((a b : Blank) → Contains (blanks_of s) a → Contains (blanks_of t) b → f a ≡ f b → a ≡ b) → labelled f s ≡ labelled f t → s ≡ t
 statement_from_labelled f s t p e =
     same_statement s t
-      (term_from_labelled f s.subject t.subject
-        (λ a b m n. p a b (Contains-append_left (blanks_of_term s.subject) (blanks_of_term s.object ++ blanks_of_graph s.graph) a m) (Contains-append_left (blanks_of_term t.subject) (blanks_of_term t.object ++ blanks_of_graph t.graph) b n))
-        (ap (λ (q : Statement). q.subject) e))
-      (ap (λ (q : Statement). q.predicate) e)
-      (term_from_labelled f s.object t.object
-        (λ a b m n. p a b (Contains-append_right (blanks_of_term s.subject) (blanks_of_term s.object ++ blanks_of_graph s.graph) a (Contains-append_left (blanks_of_term s.object) (blanks_of_graph s.graph) a m)) (Contains-append_right (blanks_of_term t.subject) (blanks_of_term t.object ++ blanks_of_graph t.graph) b (Contains-append_left (blanks_of_term t.object) (blanks_of_graph t.graph) b n)))
-        (ap (λ (q : Statement). q.object) e))
-      (graph_from_labelled f s.graph t.graph
-        (λ a b m n. p a b (Contains-append_right (blanks_of_term s.subject) (blanks_of_term s.object ++ blanks_of_graph s.graph) a (Contains-append_right (blanks_of_term s.object) (blanks_of_graph s.graph) a m)) (Contains-append_right (blanks_of_term t.subject) (blanks_of_term t.object ++ blanks_of_graph t.graph) b (Contains-append_right (blanks_of_term t.object) (blanks_of_graph t.graph) b n)))
-        (ap (λ (q : Statement). q.graph) e))
+    (term_from_labelled f s.subject t.subject
+    (λ a b m n. p a b (Contains-append_left (blanks_of_term s.subject) (blanks_of_term s.object ++ blanks_of_graph s.graph) a m) (Contains-append_left (blanks_of_term t.subject) (blanks_of_term t.object ++ blanks_of_graph t.graph) b n))
+    (ap (λ (q : Statement). q.subject) e))
+    (ap (λ (q : Statement). q.predicate) e)
+    (term_from_labelled f s.object t.object
+    (λ a b m n. p a b (Contains-append_right (blanks_of_term s.subject) (blanks_of_term s.object ++ blanks_of_graph s.graph) a (Contains-append_left (blanks_of_term s.object) (blanks_of_graph s.graph) a m)) (Contains-append_right (blanks_of_term t.subject) (blanks_of_term t.object ++ blanks_of_graph t.graph) b (Contains-append_left (blanks_of_term t.object) (blanks_of_graph t.graph) b n)))
+    (ap (λ (q : Statement). q.object) e))
+    (graph_from_labelled f s.graph t.graph
+    (λ a b m n. p a b (Contains-append_right (blanks_of_term s.subject) (blanks_of_term s.object ++ blanks_of_graph s.graph) a (Contains-append_right (blanks_of_term s.object) (blanks_of_graph s.graph) a m)) (Contains-append_right (blanks_of_term t.subject) (blanks_of_term t.object ++ blanks_of_graph t.graph) b (Contains-append_right (blanks_of_term t.object) (blanks_of_graph t.graph) b n)))
+    (ap (λ (q : Statement). q.graph) e))
 
 pub line_names_statement : (f : Blank → List ℕ) (s t : Statement) → IsStatement s → IsStatement t → HasLabels f s → HasLabels f t → ((a b : Blank) → Contains (blanks_of s) a → Contains (blanks_of t) b → f a ≡ f b → a ≡ b) → line f s ≡ line f t → s ≡ t
 line_names_statement f s t i j p q o e = statement_from_labelled f s t o (line_one_reading f f s t i j p q e)
@@ -139,23 +139,29 @@ front_is s p o g = simp append_assoc
 front_absent : (s p o g : List ℕ) → Absent 10 s → Absent 10 p → Absent 10 o → Absent 10 g → Absent 10 (front_of s p o g)
 unfolding front_of
 front_absent s p o g a b c d =
-    Absent-append 10 s (32 ∷ (p ++ (32 ∷ (o ++ (32 ∷ (g ++ (46 ∷ []))))))) a ((omega arith),
-    Absent-append 10 p (32 ∷ (o ++ (32 ∷ (g ++ (46 ∷ []))))) b ((omega arith),
-    Absent-append 10 o (32 ∷ (g ++ (46 ∷ []))) c ((omega arith),
-    Absent-append 10 g (46 ∷ []) d ((omega arith), tt))))
+    Absent-append 10 s (32 ∷ (p ++ (32 ∷ (o ++ (32 ∷ (g ++ (46 ∷ []))))))) a (
+      (omega arith),
+      Absent-append 10 p (32 ∷ (o ++ (32 ∷ (g ++ (46 ∷ []))))) b (
+        (omega arith),
+        Absent-append 10 o (32 ∷ (g ++ (46 ∷ []))) c (
+          (omega arith),
+          Absent-append 10 g (46 ∷ []) d ((omega arith), tt),
+        ),
+      ),
+    )
 
 pub IsLine-line : (f : Blank → List ℕ) (s : Statement) → IsStatement s → HasLabels f s → IsLine (line f s)
 IsLine-line f s i p =
     let absent : Absent 10 (front_of (term_text f s.subject) (iri_text s.predicate) (term_text f s.object) (graph_text f s.graph)) =
-      front_absent (term_text f s.subject) (iri_text s.predicate) (term_text f s.object) (graph_text f s.graph)
-        (term_text_absent f s.subject (IsTerm-from_resource s.subject i.subject) (λ b m. p b (Contains-append_left (blanks_of_term s.subject) (blanks_of_term s.object ++ blanks_of_graph s.graph) b m)))
-        (iri_text_absent s.predicate i.predicate)
-        (term_text_absent f s.object i.object (λ b m. p b (Contains-append_right (blanks_of_term s.subject) (blanks_of_term s.object ++ blanks_of_graph s.graph) b (Contains-append_left (blanks_of_term s.object) (blanks_of_graph s.graph) b m))))
-        (graph_text_absent f s.graph i.graph (λ b m. p b (Contains-append_right (blanks_of_term s.subject) (blanks_of_term s.object ++ blanks_of_graph s.graph) b (Contains-append_right (blanks_of_term s.object) (blanks_of_graph s.graph) b m)))) in
+    front_absent (term_text f s.subject) (iri_text s.predicate) (term_text f s.object) (graph_text f s.graph)
+    (term_text_absent f s.subject (IsTerm-from_resource s.subject i.subject) (λ b m. p b (Contains-append_left (blanks_of_term s.subject) (blanks_of_term s.object ++ blanks_of_graph s.graph) b m)))
+    (iri_text_absent s.predicate i.predicate)
+    (term_text_absent f s.object i.object (λ b m. p b (Contains-append_right (blanks_of_term s.subject) (blanks_of_term s.object ++ blanks_of_graph s.graph) b (Contains-append_left (blanks_of_term s.object) (blanks_of_graph s.graph) b m))))
+    (graph_text_absent f s.graph i.graph (λ b m. p b (Contains-append_right (blanks_of_term s.subject) (blanks_of_term s.object ++ blanks_of_graph s.graph) b (Contains-append_right (blanks_of_term s.object) (blanks_of_graph s.graph) b m)))) in
     record {
       front = front_of (term_text f s.subject) (iri_text s.predicate) (term_text f s.object) (graph_text f s.graph);
       is = front_is (term_text f s.subject) (iri_text s.predicate) (term_text f s.object) (graph_text f s.graph);
-      whole = Absent-contains 10 (front_of (term_text f s.subject) (iri_text s.predicate) (term_text f s.object) (graph_text f s.graph)) absent
+      whole = Absent-contains 10 (front_of (term_text f s.subject) (iri_text s.predicate) (term_text f s.object) (graph_text f s.graph)) absent;
     }
 
 -- ---- a joined text has one split

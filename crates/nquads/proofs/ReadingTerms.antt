@@ -1,15 +1,15 @@
 -- A spelling has one reading, and so has a term in a line.
-use Rattle.std.proofs.Common.{◌≡◌, ◌≢◌, ◌⊎◌, ℕ, zero, suc, ◌<◌, List, [], ◌∷◌, ◌++◌, length, map, All, Contains, Bool, true, false, refl, sym, ap, ap₂, ◌∙◌, arith, append_assoc, append-nil, subst, inl, inr, zero-lt-suc, true≢false, Option, Some, None, MatchOption, IfSome, option_map, if◌then◌else◌, ◌||◌, bytes_eq, ◌==◌}
-use Rattle.std.proofs.lemmas.Bool.{false≢true, eqb-false}
+use Rattle.std.proofs.Common.{◌≡◌, ◌≢◌, ℕ, zero, List, [], ◌∷◌, ◌++◌, All, Contains, Bool, true, false, refl, sym, ap, ◌∙◌, arith, append_assoc, zero-lt-suc, true≢false, Option, Some, None, IfSome, option_map, if◌then◌else◌, ◌||◌, bytes_eq}
+use Rattle.std.proofs.lemmas.Bool.{false≢true}
 use Rattle.std.proofs.lemmas.Slice.Eq.{bytes_eq-Decides}
-use Rattle.std.proofs.lemmas.List.Elements.{All-head, All-tail, Contains-append_left, Contains-append_right}
+use Rattle.std.proofs.lemmas.List.Elements.{All-head, All-tail}
 use Rattle.std.specs.List.{flat_map}
-use Rattle.nquads.specs.Terms.{BlankKind, by_label, by_node, by_graph, by_cell, Blank, Term, iri, literal, blank, Statement, IsIri, IsLanguage, IsLabel, IsTerm, IsResource, IsStatement, is_forbidden, is_letter, is_digit, is_label_character, xsd_string, rdf_lang_string}
-use Rattle.nquads.specs.Renaming.{blanks_of_term, blanks_of_graph, blanks_of, rename_term, rename}
+use Rattle.nquads.specs.Terms.{BlankKind, by_label, by_node, by_graph, by_cell, Blank, Term, iri, literal, blank, Statement, IsIri, IsLanguage, IsLabel, IsTerm, IsResource, IsStatement, is_forbidden, is_letter, is_digit, is_label_character, xsd_string}
+use Rattle.nquads.specs.Renaming.{blanks_of_term, rename_term}
 use Rattle.nquads.specs.Spelling.{escape, iri_text, literal_end, literal_text, kind_letter, blank_text, spelling, spelled}
-use Rattle.nquads.specs.Lines.{term_text, graph_text, line, labelled, HasLabels}
+use Rattle.nquads.specs.Lines.{term_text}
 use Rattle.nquads.specs.declared.quads.TextQuad.{TextQuad}
-use Rattle.nquads.proofs.ReadingTexts.{Absent, Absent-append, cut_once, Absent-tested}
+use Rattle.nquads.proofs.ReadingTexts.{apart, Absent, Absent-append, cut_once, Absent-tested}
 use Rattle.nquads.proofs.ReadingEscapes.{quoted_one_reading}
 
 -- ---- bytes that a part does not hold
@@ -22,30 +22,24 @@ label_absent c text f l = Absent-tested is_label_character true c text (λ e. fa
 
 groups_absent : (c : ℕ) (groups : List (List ℕ)) → (c ≢ 45) → (is_letter c || is_digit c) ≡ false → All (λ g. (g ≢ []) × All (λ x. (is_letter x || is_digit x) ≡ true) g) groups → Absent c (flat_map (λ g. 45 ∷ g) groups)
 groups_absent c [] n f a = tt
-groups_absent c (g ∷ gs) n f a =
-    (n, Absent-append c g (flat_map (λ g. 45 ∷ g) gs)
+groups_absent c (g ∷ gs) n f a = (
+  n,
+  Absent-append c g (flat_map (λ g. 45 ∷ g) gs)
       (Absent-tested (λ x. is_letter x || is_digit x) true c g (λ e. false≢true (sym f ∙ e)) (All-head (λ g. (g ≢ []) × All (λ x. (is_letter x || is_digit x) ≡ true) g) g gs a).1)
-      (groups_absent c gs n f (All-tail (λ g. (g ≢ []) × All (λ x. (is_letter x || is_digit x) ≡ true) g) g gs a)))
+      (groups_absent c gs n f (All-tail (λ g. (g ≢ []) × All (λ x. (is_letter x || is_digit x) ≡ true) g) g gs a)),
+)
 
 pub language_absent : (c : ℕ) (text : List ℕ) → (c ≢ 45) → is_letter c ≡ false → is_digit c ≡ false → IsLanguage text → Absent c text
 language_absent c text n l d i =
     rw i.is (Absent-append c i.first (flat_map (λ g. 45 ∷ g) i.groups)
-      (Absent-tested is_letter true c i.first (λ e. false≢true (sym l ∙ e)) i.first_letters.1)
-      (groups_absent c i.groups n (rw (l, d) refl) i.group_characters))
+    (Absent-tested is_letter true c i.first (λ e. false≢true (sym l ∙ e)) i.first_letters.1)
+    (groups_absent c i.groups n (rw (l, d) refl) i.group_characters))
 
 -- ---- a part, a space, and what follows
-
-abbrev head : List ℕ → ℕ
-head [] = 0
-head (x ∷ xs) = x
 
 abbrev tail : List ℕ → List ℕ
 tail [] = []
 tail (x ∷ xs) = xs
-
--- two texts whose first bytes differ
-pub apart : (m n : ℕ) (xs ys : List ℕ) → (m == n) ≡ false → m ∷ xs ≡ n ∷ ys → ⊥
-apart m n xs ys d e = eqb-false m n d (ap head e)
 
 pub iri_then : (x y r u : List ℕ) → IsIri x → IsIri y → iri_text x ++ 32 ∷ r ≡ iri_text y ++ 32 ∷ u → (x ≡ y) × (r ≡ u)
 iri_then x y r u i j e =
@@ -172,7 +166,7 @@ graph_spelling (Some a) (Some b) i j e =
 pub spelled_one_reading : (s t : Statement) → IsStatement s → IsStatement t → spelled s ≡ spelled t → s ≡ t
 spelled_one_reading s t i j e =
     same_statement s t
-      (spelling_one_reading s.subject t.subject (IsTerm-from_resource s.subject i.subject) (IsTerm-from_resource t.subject j.subject) (ap (λ (q : TextQuad). q.subject) e))
-      (iri_then s.predicate t.predicate [] [] i.predicate j.predicate (ap (λ (q : TextQuad). q.predicate ++ 32 ∷ []) e)).0
-      (spelling_one_reading s.object t.object i.object j.object (ap (λ (q : TextQuad). q.object) e))
-      (graph_spelling s.graph t.graph i.graph j.graph (ap (λ (q : TextQuad). q.graph) e))
+    (spelling_one_reading s.subject t.subject (IsTerm-from_resource s.subject i.subject) (IsTerm-from_resource t.subject j.subject) (ap (λ (q : TextQuad). q.subject) e))
+    (iri_then s.predicate t.predicate [] [] i.predicate j.predicate (ap (λ (q : TextQuad). q.predicate ++ 32 ∷ []) e)).0
+    (spelling_one_reading s.object t.object i.object j.object (ap (λ (q : TextQuad). q.object) e))
+    (graph_spelling s.graph t.graph i.graph j.graph (ap (λ (q : TextQuad). q.graph) e))

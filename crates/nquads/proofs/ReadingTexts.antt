@@ -1,7 +1,11 @@
 -- Texts that are cut at the first place where a byte stands, and elements of lists.
-use Rattle.std.proofs.Common.{◌≡◌, ◌≢◌, ◌⊎◌, ℕ, zero, suc, ◌<◌, List, [], ◌∷◌, ◌++◌, length, map, get_or, All, Contains, Bool, true, false, refl, sym, ap, ap₂, ◌∙◌, arith, append_assoc, append-nil, subst, inl, inr, le_of_suc-le-suc, suc-le-suc, zero-lt-suc, not-suc-le-zero}
-use Rattle.std.proofs.lemmas.List.Elements.{All-head, All-tail, All-contains, Contains-append_cases, Contains-append_left, Contains-append_right}
-use Rattle.std.specs.List.{concat}
+use Rattle.std.proofs.Common.{◌≡◌, ◌≢◌, ℕ, zero, suc, List, [], ◌∷◌, ◌++◌, length, All, Contains, Bool, false, ◌==◌, refl, sym, ap, ap₂, ◌∙◌, le_of_suc-le-suc, suc-le-suc, zero-lt-suc, not-suc-le-zero}
+use Rattle.std.proofs.lemmas.List.Elements.{All-head, All-tail}
+use Rattle.std.proofs.lemmas.Bool.{eqb-false}
+
+-- two texts whose first bytes differ
+pub apart : (m n : ℕ) (xs ys : List ℕ) → (m == n) ≡ false → m ∷ xs ≡ n ∷ ys → ⊥
+apart m n xs ys d e = let same : m ≡ n = cc in eqb-false m n d same
 
 -- the byte does not stand in the text
 abbrev pub Absent : ℕ → List ℕ → Type 0

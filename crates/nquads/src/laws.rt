@@ -2,7 +2,13 @@
 
 ghost use Rattle.base_types.specs.Sets.{SameElements};
 ghost use Rattle.nquads.specs.Lines.{
-    HasLabels, IsLine, LabelsDiffer, canonical_lines, canonical_text, labelled, line,
+  HasLabels,
+  IsLine,
+  LabelsDiffer,
+  canonical_lines,
+  canonical_text,
+  labelled,
+  line,
 };
 ghost use Rattle.nquads.specs.Renaming.{IsOneToOne, Same, applied, rename};
 ghost use Rattle.nquads.specs.Spelling.{spelled, spelling};
@@ -13,78 +19,66 @@ ghost use Rattle.std.specs.Prelude.{All, Contains, List, map, ◌∷◌, ◌≡�
 /// A text is the spelling of one term at most, so texts are compared in place of terms.
 pub fn spelling_has_one_reading()
     ensures { (s t : Term) → IsTerm s → IsTerm t → spelling s ≡ spelling t → s ≡ t }
-{
-}
+{}
 
 /// Four texts are the spellings of one statement at most.
 pub fn spelled_statement_has_one_reading()
-    ensures {
-        (s t : Statement) → IsStatement s → IsStatement t → spelled s ≡ spelled t → s ≡ t
-    }
-{
-}
+    ensures { (s t : Statement) → IsStatement s → IsStatement t → spelled s ≡ spelled t → s ≡ t }
+{}
 
 /// Two statements with one line are one but for the names of their blank nodes, and these have the
 /// same labels at the same places.
 pub fn line_has_one_reading()
-    ensures {
-        (f g : Blank → List ℕ) (s t : Statement) → IsStatement s → IsStatement t → HasLabels f s
-            → HasLabels g t → line f s ≡ line g t → labelled f s ≡ labelled g t
-    }
-{
-}
+    ensures { (f g : Blank → List ℕ) (s t : Statement) → IsStatement s → IsStatement t → HasLabels f s
+        → HasLabels g t → line f s ≡ line g t → labelled f s ≡ labelled g t }
+{}
 
 /// In a dataset whose labels differ, no two statements have one line.
 pub fn line_names_its_statement()
-    ensures {
-        (f : Blank → List ℕ) (q : List Statement) → All IsStatement q → All (HasLabels f) q
-            → LabelsDiffer f q → (s t : Statement) → Contains q s → Contains q t
-            → line f s ≡ line f t → s ≡ t
-    }
-{
-}
+    ensures { (f : Blank → List ℕ) (q : List Statement) → All IsStatement q → All (HasLabels f) q
+        → LabelsDiffer f q → (s t : Statement) → Contains q s → Contains q t
+        → line f s ≡ line f t → s ≡ t }
+{}
 
 /// A line ends with LF and holds no other.
 pub fn line_is_one_line()
-    ensures {
-        (f : Blank → List ℕ) (s : Statement) → IsStatement s → HasLabels f s → IsLine (line f s)
-    }
-{
-}
+    ensures { (f : Blank → List ℕ) (s : Statement) → IsStatement s → HasLabels f s → IsLine (line f s) }
+{}
 
 /// A text of whole lines is split into lines in one way only.
 pub fn joined_lines_split_once()
-    ensures {
-        (ls ms : List (List ℕ)) → All IsLine ls → All IsLine ms → concat ls ≡ concat ms → ls ≡ ms
-    }
-{
-}
+    ensures { (ls ms : List (List ℕ)) → All IsLine ls → All IsLine ms → concat ls ≡ concat ms → ls ≡ ms }
+{}
 
-/// A canonical text determines its lines, and with them the labelled statements.
+/// A canonical text determines its lines, and with them the labelled statements; and these determine
+/// it.
 pub fn text_has_one_reading()
-    ensures lines {
-        (f g : Blank → List ℕ) (q r : List Statement) → All IsStatement q → All IsStatement r
-            → All (HasLabels f) q → All (HasLabels g) r → canonical_text f q ≡ canonical_text g r
-            → canonical_lines f q ≡ canonical_lines g r
-    }
-    ensures statements {
-        (f g : Blank → List ℕ) (q r : List Statement) → All IsStatement q → All IsStatement r
-            → All (HasLabels f) q → All (HasLabels g) r → canonical_text f q ≡ canonical_text g r
-            → SameElements (map (labelled f) q) (map (labelled g) r)
-    }
-{
-}
+    ensures lines { (f g : Blank → List ℕ) (q r : List Statement) → All IsStatement q → All IsStatement r
+        → All (HasLabels f) q → All (HasLabels g) r → canonical_text f q ≡ canonical_text g r
+        → canonical_lines f q ≡ canonical_lines g r }
+    ensures statements { (f g : Blank → List ℕ) (q r : List Statement) → All IsStatement q → All IsStatement r
+        → All (HasLabels f) q → All (HasLabels g) r → canonical_text f q ≡ canonical_text g r
+        → SameElements (map (labelled f) q) (map (labelled g) r) }
+    ensures text { (f g : Blank → List ℕ) (q r : List Statement)
+        → SameElements (map (labelled f) q) (map (labelled g) r)
+        → canonical_text f q ≡ canonical_text g r }
+{}
 
 /// Datasets with one canonical text are the same up to the names of blank nodes, where no two blank
 /// nodes of a dataset have one label.
 pub fn text_names_its_dataset()
-    ensures {
-        (f g : Blank → List ℕ) (q r : List Statement) → All IsStatement q → All IsStatement r
-            → All (HasLabels f) q → All (HasLabels g) r → LabelsDiffer f q → LabelsDiffer g r
-            → canonical_text f q ≡ canonical_text g r → Same q r
-    }
-{
-}
+    ensures { (f g : Blank → List ℕ) (q r : List Statement) → All IsStatement q → All IsStatement r
+        → All (HasLabels f) q → All (HasLabels g) r → LabelsDiffer f q → LabelsDiffer g r
+        → canonical_text f q ≡ canonical_text g r → Same q r }
+{}
+
+/// A renaming that takes the labels along leaves a line as it is, and the canonical text.
+pub fn renaming_carries_labels()
+    ensures line { (f : Blank → List ℕ) (h : Blank → Blank) (s : Statement)
+        → line f (rename h s) ≡ line (λ b. f (h b)) s }
+    ensures text { (f : Blank → List ℕ) (q r : List Statement) (s : Same q r)
+        → canonical_text f r ≡ canonical_text (λ b. f (applied s.pairs b)) q }
+{}
 
 /// To be the same up to the names of blank nodes is an equivalence, and datasets with the same
 /// statements are the same.
@@ -93,16 +87,12 @@ pub fn same_is_an_equivalence()
     ensures reflexive { (q : List Statement) → Same q q }
     ensures symmetric { (q r : List Statement) → Same q r → Same r q }
     ensures transitive { (q r s : List Statement) → Same q r → Same r s → Same q s }
-{
-}
+{}
 
 /// Two datasets are the same up to the names of blank nodes exactly where a map of blank nodes that
 /// sends no two of the first dataset to one takes the first dataset to the second.
 pub fn same_is_a_map_one_to_one()
-    ensures from_map {
-        (f : Blank → Blank) (q r : List Statement) → IsOneToOne f q
-            → SameElements (map (rename f) q) r → Same q r
-    }
+    ensures from_map { (f : Blank → Blank) (q r : List Statement) → IsOneToOne f q
+        → SameElements (map (rename f) q) r → Same q r }
     ensures to_map { (q r : List Statement) (s : Same q r) → IsOneToOne (applied s.pairs) q }
-{
-}
+{}
