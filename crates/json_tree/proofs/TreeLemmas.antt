@@ -10,8 +10,8 @@ use Rattle.json_tree.specs.declared.tree.Item.{Item}
 use Rattle.json_tree.specs.declared.tree.Member.{Member}
 use Rattle.json_tree.specs.declared.place.Step.{Step}
 use Rattle.json_tree.specs.declared.place.Step.TheVariants.{Key, At}
-use Rattle.json_tree.specs.Trees.{each_next, is_before, lawful_step, is_lawful}
-use Rattle.json_tree.specs.Places.{child_in, child_of, text_in, text_of, members_in, members_of, names_in, names_at}
+use Rattle.json_tree.specs.Trees.{each_next, is_before, lawful_step, is_lawful, AreLawful}
+use Rattle.json_tree.specs.Places.{value_of, child_in, child_of, text_in, text_of, members_in, members_of, names_in, names_at}
 use Rattle.json_tree.proofs.Rising.{each_next-map, left_of, right_of, both_hold}
 
 -- ---- is_lawful
@@ -49,6 +49,12 @@ members_rise t members lawful is = left_of _ _ (sym (is_lawful-Object members) �
 pub members_lawful : (t : Tree) (members : List (Member Tree)) → is_lawful t ≡ true → t ≡ v.Object members → list_all (λ m. is_lawful m.value) members ≡ true
 members_lawful t members lawful is = right_of _ _ (sym (is_lawful-Object members) ∙ ap is_lawful (sym is) ∙ lawful)
 
+pub lawful_members : (t : Tree) (members seen : List (Member Tree)) → is_lawful t ≡ true → t ≡ v.Object members → seen ≡ members → AreLawful seen
+lawful_members t members seen lawful is same = record {
+  rising = ap (each_next (λ m n. is_before m.key n.key)) same ∙ members_rise t members lawful is;
+  values = ap (list_all (λ m. is_lawful m.value)) same ∙ members_lawful t members lawful is;
+}
+
 pub items_rise : (t : Tree) (items : List (Item Tree)) → is_lawful t ≡ true → t ≡ v.List items → each_next (λ i j. nat_lt i.at j.at) items ≡ true
 items_rise t items lawful is = left_of _ _ (sym (is_lawful-List items) ∙ ap is_lawful (sym is) ∙ lawful)
 
@@ -75,7 +81,7 @@ child_of-List-At items at = ap (λ x. child_in x (At at)) (v.outs-List items)
 pub child_of-List-Key : (items : List (Item Tree)) (key : List ℕ) → child_of (v.List items) (Key key) ≡ None
 child_of-List-Key items key = ap (λ x. child_in x (Key key)) (v.outs-List items)
 
-pub child_of-Object-Key : (members : List (Member Tree)) (key : List ℕ) → child_of (v.Object members) (Key key) ≡ option_map (λ m. m.value) (find (λ m. bytes_eq m.key key) members)
+pub child_of-Object-Key : (members : List (Member Tree)) (key : List ℕ) → child_of (v.Object members) (Key key) ≡ value_of key members
 child_of-Object-Key members key = ap (λ x. child_in x (Key key)) (v.outs-Object members)
 
 pub child_of-Object-At : (members : List (Member Tree)) (at : ℕ) → child_of (v.Object members) (At at) ≡ None
@@ -129,6 +135,18 @@ is_object (Tree-F.Object ms) members h = cc
 
 pub members_of-Some : (t : Tree) (members : List (Member Tree)) → members_of t ≡ Some members → t ≡ v.Object members
 members_of-Some t members h = sym (roll-out-Tree t) ∙ ap roll-Tree (is_object (out-Tree t) members h) ∙ v.rolls-Object members
+
+-- a member stands at its name
+child_of_members : (x : Tree-F Tree) (key : List ℕ) → child_in x (Key key) ≡ option_and_then (value_of key) (members_in x)
+child_of_members Tree-F.Null key = refl
+child_of_members (Tree-F.Bool b) key = refl
+child_of_members Tree-F.Number key = refl
+child_of_members (Tree-F.Text s) key = refl
+child_of_members (Tree-F.List items) key = refl
+child_of_members (Tree-F.Object ms) key = refl
+
+pub child_of-members : (t : Tree) (key : List ℕ) → child_of t (Key key) ≡ option_and_then (value_of key) (members_of t)
+child_of-members t key = child_of_members (out-Tree t) key
 
 -- the names are those of the members
 names_of_members : (x : Tree-F Tree) → names_in x ≡ option_map (λ members. map (λ m. m.key) members) (members_in x)

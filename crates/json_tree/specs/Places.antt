@@ -7,9 +7,13 @@ use Rattle.json_tree.specs.declared.tree.Member.{Member}
 use Rattle.json_tree.specs.declared.place.Step.{Step}
 use Rattle.json_tree.specs.declared.place.Step.TheVariants.{Key, At}
 
+-- the value of the member of that name
+abbrev pub value_of : List ℕ → List (Member Tree) → Option Tree
+value_of key members = option_map (λ m. m.value) (find (λ m. bytes_eq m.key key) members)
+
 -- what stands one step below: the member of that name, or the element whose original index that is
 abbrev pub child_in : Tree-F Tree → Step → Option Tree
-child_in (Tree-F.Object members) (Key key) = option_map (λ m. m.value) (find (λ m. bytes_eq m.key key) members)
+child_in (Tree-F.Object members) (Key key) = value_of key members
 child_in (Tree-F.List items) (At at) = option_map (λ i. i.value) (find (λ i. i.at == at) items)
 child_in t step = None
 

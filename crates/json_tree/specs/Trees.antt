@@ -1,5 +1,5 @@
 -- Trees of JSON values, and the tree that a JSON value is. RFC 8259, section 3.
-use Rattle.std.specs.Prelude.{ℕ, ◌+◌, List, [], ◌∷◌, Bool, true, ◌&&◌, nat_lt}
+use Rattle.std.specs.Prelude.{◌≡◌, ℕ, ◌+◌, List, [], ◌∷◌, Bool, true, ◌&&◌, nat_lt}
 use Rattle.std.specs.Ordering.{nat_cmp, is_lt}
 use Rattle.std.specs.Cmp.Lexicographic.{slice_cmp}
 use Rattle.std.specs.List.{list_all}
@@ -59,3 +59,8 @@ lawful_step (Tree-F.Object members) = each_next (λ m n. is_before m.key n.key) 
 -- elements rise strictly.
 abbrev pub is_lawful : Tree → Bool
 is_lawful = fold-Tree Bool lawful_step
+
+-- the members of a lawful object: their names rise and their values are lawful
+pub record AreLawful (members : List (Member Tree)) : Type 0 where
+  pub rising : each_next (λ m n. is_before m.key n.key) members ≡ true
+  pub values : list_all (λ m. is_lawful m.value) members ≡ true

@@ -1,4 +1,4 @@
-ghost use Rattle.std.specs.Prelude.{◌≡◌, OnSome};
+ghost use Rattle.std.specs.Prelude.{◌≡◌, true, IfSome};
 ghost use Rattle.std.specs.Option.{option_copied};
 
 use base_types::{Items, Memory, Text};
@@ -49,6 +49,7 @@ impl From<Memory> for TreeFault {
 
 impl Tree {
     ghost use Rattle.json_tree.specs.Places.{text_of, members_of};
+    ghost use Rattle.json_tree.specs.Trees.{is_lawful, AreLawful};
 
     /// The text, where the value is one.
     pub fn as_text(&self) -> Option<&Text>
@@ -60,9 +61,10 @@ impl Tree {
         }
     }
 
-    /// The members, where the value is an object.
+    /// The members in the byte order of their names, where the value is an object.
     pub fn as_object(&self) -> Option<&[Member]>
-        ensures { option_copied result ≡ members_of self.now }
+        ensures members { option_copied result ≡ members_of self.now }
+        ensures lawful { is_lawful self.now ≡ true → IfSome result (λ ms. AreLawful ms.now) }
     {
         match self {
             Tree::Object(members) => Some(members.as_slice()),
