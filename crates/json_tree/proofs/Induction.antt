@@ -1,5 +1,5 @@
 -- Induction over trees.
-use Rattle.std.proofs.Common.{◌≡◌, ℕ, Bool, List, [], ◌∷◌, map, sym, subst}
+use Rattle.std.proofs.Common.{ℕ, Bool, List, [], ◌∷◌, map, sym, subst}
 use Rattle.json_tree.specs.declared.tree.Tree.{Tree, ind-Tree, map-Tree, roll-Tree}
 use Rattle.json_tree.specs.declared.tree.Tree.TheOpen.{Tree-F}
 use Rattle.json_tree.specs.declared.tree.Tree.TheVariants as v

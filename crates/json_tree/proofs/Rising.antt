@@ -1,17 +1,18 @@
 -- Lists of which each element passes a test together with the next, and look-ups by name in them.
-use Rattle.std.proofs.Common.{◌≡◌, ℕ, ◌+◌, ◌-◌, ◌<◌, ◌≤◌, zero, suc, Bool, true, false, ◌&&◌, List, [], ◌∷◌, ◌++◌, map, length, get_or, Option, Some, None, option_map, find, Ordering, Less, Equal, Greater, refl, sym, ap, add-one, ◌∙◌, subst, arith, inl, inr, ◌⊎◌}
+use Rattle.std.proofs.Common.{◌≡◌, ℕ, ◌<◌, zero, suc, Bool, true, false, ◌&&◌, List, [], ◌∷◌, map, length, get_or, Some, None, option_map, find, Ordering, Less, Equal, Greater, refl, sym, ap, add-one, ◌∙◌, subst, arith, inl, inr}
 use Rattle.std.specs.Str.{bytes_eq}
 use Rattle.std.specs.Ordering.{nat_cmp, is_lt, is_eq, ordering_reverse}
 use Rattle.std.specs.Cmp.Lexicographic.{slice_cmp}
 use Rattle.std.specs.List.{AllWithin, HoldsAt}
 use Rattle.std.specs.List.Sorted.{IsSortedBy}
 use Rattle.std.proofs.lemmas.Cmp.{nat_list_cmp_total}
-use Rattle.std.proofs.lemmas.Bool.{cases_lt}
+use Rattle.std.proofs.lemmas.Bool.{cases_lt, cases_Bool}
 use Rattle.std.proofs.lemmas.Map.Text.{is_eq-slice_cmp}
 use Rattle.std.proofs.lemmas.Slice.Eq.{bytes_eq-Decides}
 use Rattle.json_tree.specs.declared.tree.Tree.{Tree}
 use Rattle.json_tree.specs.declared.tree.Member.{Member}
 use Rattle.json_tree.specs.Trees.{each_next, is_before}
+use Rattle.json_tree.specs.Places.{value_of}
 
 -- `&&` taken apart and put together
 pub left_of : (a b : Bool) → (a && b) ≡ true → a ≡ true
@@ -99,3 +100,30 @@ find_found ms key at x rise within equal =
 pub find_nowhere : (ms : List (Member Tree)) (key : List ℕ) (at : ℕ) → AllWithin (λ m. slice_cmp nat_cmp m.key key ≡ Less) ms 0 at → AllWithin (λ m. slice_cmp nat_cmp m.key key ≡ Greater) ms at (length ms) → find (λ m. bytes_eq m.key key) ms ≡ None
 find_nowhere ms key at low high =
     find_absent ms key (λ k d l. sym (is_eq-slice_cmp (get_or ms k d).key key) ∙ elim (cases_lt k at) [ inl h ↦ ap is_eq (low k d (omega arith) h) | inr h ↦ ap is_eq (high k d h l) ])
+
+-- ---- the value at a name
+
+-- each member's value stands at its name
+pub value_of-at : (ms : List (Member Tree)) (k : ℕ) (d : Member Tree) → NamesRise ms → k < length ms → value_of (get_or ms k d).key ms ≡ Some (get_or ms k d).value
+value_of-at ms k d rise within = ap (option_map (λ m. m.value)) (find_at_name ms k d rise within)
+
+-- a member that stands among others, by its place
+pub record Stands (ms : List (Member Tree)) (key : List ℕ) (value : Tree) : Type 0 where
+  pub place : ℕ
+  pub within : place < length ms
+  pub named : (d : Member Tree) → (get_or ms place d).key ≡ key
+  pub valued : (d : Member Tree) → (get_or ms place d).value ≡ value
+
+pub value_of-Some : (ms : List (Member Tree)) (key : List ℕ) (value : Tree) → value_of key ms ≡ Some value → Stands ms key value
+value_of-Some [] key value h = absurd (cc)
+value_of-Some (m ∷ ms) key value h =
+    elim (cases_Bool (bytes_eq m.key key)) [
+      | inl this ↦
+          let found : value_of key (m ∷ ms) ≡ Some m.value = rw this in
+          let same : m.value ≡ value = cc in
+          record { place = 0; within = omega arith; named = λ d. (bytes_eq-Decides m.key key).0 this; valued = λ d. same }
+      | inr other ↦
+          let later : value_of key (m ∷ ms) ≡ value_of key ms = rw other in
+          let s = value_of-Some ms key value (sym later ∙ h) in
+          record { place = suc s.place; within = omega (arith, s.within); named = s.named; valued = s.valued }
+    ]

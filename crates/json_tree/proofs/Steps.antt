@@ -1,12 +1,12 @@
 -- One turn of each loop that reads a value, and what the loops make.
-use Rattle.std.proofs.Common.{◌≡◌, ℕ, ◌+◌, ◌<◌, Bool, true, ◌&&◌, nat_lt, List, [], ◌∷◌, ◌++◌, map, String, string_bytes, string_cmp, Vec, BTreeMap, append-nil, refl, sym, ap, ◌∙◌, arith}
+use Rattle.std.proofs.Common.{◌≡◌, ℕ, ◌+◌, true, nat_lt, List, [], ◌∷◌, ◌++◌, map, String, string_bytes, string_cmp, Vec, BTreeMap, append-nil, refl, sym, ap, ◌∙◌, arith}
 use Rattle.std.specs.declared.alloc.Global.{Global}
 use Rattle.std.specs.List.{list_all}
 use Rattle.std.specs.Ordering.{is_lt}
 use Rattle.std.specs.List.Sorted.{IsStrictlySortedBy}
 use Rattle.std.specs.Map.{keys_of}
 use Rattle.std.proofs.lemmas.Bool.Decides.{nat_tests}
-use Rattle.serde_json.specs.Data.{Data, array, object, Items, no_items, item, Members, no_members, member}
+use Rattle.serde_json.specs.Data.{array, object, Items, no_items, item, Members}
 use Rattle.serde_json.specs.View.{view, items_view, members_view}
 use Rattle.serde_json.specs.declared.value.Value.{Value}
 use Rattle.serde_json.specs.declared.value.Value.TheVariants as reader
@@ -15,7 +15,7 @@ use Rattle.json_tree.specs.declared.tree.Tree.{Tree}
 use Rattle.json_tree.specs.declared.tree.Tree.TheVariants as v
 use Rattle.json_tree.specs.declared.tree.Item.{Item}
 use Rattle.json_tree.specs.declared.tree.Member.{Member}
-use Rattle.json_tree.specs.Trees.{element, entry, tree_of, elements_of, entries_of, each_next, is_before, is_lawful}
+use Rattle.json_tree.specs.Trees.{elements_of, entries_of, each_next, is_before, is_lawful}
 use Rattle.json_tree.specs.Reads.{IsTreeOf, AreElementsOf, AreEntriesOf}
 use Rattle.json_tree.proofs.Rising.{both_hold, NamesRise}
 use Rattle.json_tree.proofs.TreeLemmas.{is_lawful-List, is_lawful-Object}

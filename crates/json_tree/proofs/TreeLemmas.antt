@@ -1,9 +1,8 @@
 -- One equation for each variant of a tree, for each definition by cases on it.
-use Rattle.std.proofs.Common.{◌≡◌, ℕ, Bool, true, ◌&&◌, ◌==◌, nat_lt, List, [], ◌∷◌, map, Option, Some, None, option_map, option_and_then, find, refl, sym, ap, ◌∙◌}
+use Rattle.std.proofs.Common.{◌≡◌, ℕ, Bool, true, ◌&&◌, ◌==◌, nat_lt, List, [], map, Some, None, option_map, option_and_then, find, refl, sym, ap, ◌∙◌}
 use Rattle.std.specs.List.{list_all}
-use Rattle.std.specs.Str.{bytes_eq}
 use Rattle.std.proofs.lemmas.List.Folds.{list_all-map}
-use Rattle.json_tree.specs.declared.tree.Tree.{Tree, fold-Tree, fold-roll-Tree, out-Tree, roll-Tree, roll-out-Tree}
+use Rattle.json_tree.specs.declared.tree.Tree.{Tree, fold-roll-Tree, out-Tree, roll-Tree, roll-out-Tree}
 use Rattle.json_tree.specs.declared.tree.Tree.TheOpen.{Tree-F}
 use Rattle.json_tree.specs.declared.tree.Tree.TheVariants as v
 use Rattle.json_tree.specs.declared.tree.Item.{Item}
@@ -12,7 +11,7 @@ use Rattle.json_tree.specs.declared.place.Step.{Step}
 use Rattle.json_tree.specs.declared.place.Step.TheVariants.{Key, At}
 use Rattle.json_tree.specs.Trees.{each_next, is_before, lawful_step, is_lawful, AreLawful}
 use Rattle.json_tree.specs.Places.{value_of, child_in, child_of, text_in, text_of, members_in, members_of, names_in, names_at}
-use Rattle.json_tree.proofs.Rising.{each_next-map, left_of, right_of, both_hold}
+use Rattle.json_tree.proofs.Rising.{each_next-map, left_of, right_of}
 
 -- ---- is_lawful
 
