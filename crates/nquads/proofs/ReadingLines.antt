@@ -3,7 +3,7 @@ use Rattle.std.proofs.Common.{◌≡◌, ℕ, zero, List, [], ◌∷◌, ◌++�
 use Rattle.std.proofs.lemmas.List.Elements.{All-head, All-tail, Contains-append_left, Contains-append_right}
 use Rattle.std.specs.List.{flat_map, concat}
 use Rattle.nquads.specs.Terms.{Blank, Term, iri, literal, blank, Statement, IsIri, IsLabel, IsTerm, IsResource, IsStatement, xsd_string}
-use Rattle.nquads.specs.Renaming.{blanks_of_term, blanks_of_graph, blanks_of, rename_term}
+use Rattle.nquads.specs.Renaming.{blanks_of_term, blanks_of_graph, blanks_of, rename_term, rename}
 use Rattle.nquads.specs.Spelling.{escape, iri_text, literal_end}
 use Rattle.nquads.specs.Lines.{term_text, graph_text, line, labelled, HasLabels, IsLine}
 use Rattle.nquads.proofs.ReadingTexts.{apart, Absent, Absent-append, Absent-contains, Absent-from, cut_once}
@@ -58,53 +58,47 @@ line_one_reading f g s t i j p q e =
     (λ b m. q b (Contains-append_right (blanks_of_term t.subject) (blanks_of_term t.object ++ blanks_of_graph t.graph) b (Contains-append_right (blanks_of_term t.object) (blanks_of_graph t.graph) b m))) objects.1 in
     same_statement (labelled f s) (labelled g t) subjects.0 predicates.0 objects.0 graphs
 
--- ---- where labels are one-to-one, the statement itself
+-- ---- where no two blank nodes are sent to one, a renamed statement determines the statement
 
-name_in : Term → List ℕ
-name_in (blank b) = b.name
-name_in (iri x) = []
-name_in (literal s x k) = []
+-- a blank node of the first list and one of the second are sent to one only where they are one
+abbrev OneToOne : (Blank → Blank) → List Blank → List Blank → Type 0
+OneToOne h xs ys = (a b : Blank) → Contains xs a → Contains ys b → h a ≡ h b → a ≡ b
 
--- no two blank nodes of the lists have one label
-abbrev OneToOne : (Blank → List ℕ) → List Blank → List Blank → Type 0
-OneToOne f xs ys = (a b : Blank) → Contains xs a → Contains ys b → f a ≡ f b → a ≡ b
+term_from_renamed : (h : Blank → Blank) (s t : Term) → OneToOne h (blanks_of_term s) (blanks_of_term t) → rename_term h s ≡ rename_term h t → s ≡ t
+term_from_renamed h (iri x) (iri y) p e = e
+term_from_renamed h (iri x) (literal t y l) p e = absurd (cc)
+term_from_renamed h (iri x) (blank b) p e = absurd (cc)
+term_from_renamed h (literal s x k) (iri y) p e = absurd (cc)
+term_from_renamed h (literal s x k) (literal t y l) p e = e
+term_from_renamed h (literal s x k) (blank b) p e = absurd (cc)
+term_from_renamed h (blank a) (iri y) p e = absurd (cc)
+term_from_renamed h (blank a) (literal t y l) p e = absurd (cc)
+term_from_renamed h (blank a) (blank b) p e = let same : h a ≡ h b = cc in ap blank (p a b (zero, zero-lt-suc zero, refl) (zero, zero-lt-suc zero, refl) same)
 
-term_from_labelled : (f : Blank → List ℕ) (s t : Term) → OneToOne f (blanks_of_term s) (blanks_of_term t) → rename_term (named f) s ≡ rename_term (named f) t → s ≡ t
-unfolding name_in
-term_from_labelled f (iri x) (iri y) p e = e
-term_from_labelled f (iri x) (literal t y l) p e = absurd (cc)
-term_from_labelled f (iri x) (blank b) p e = absurd (cc)
-term_from_labelled f (literal s x k) (iri y) p e = absurd (cc)
-term_from_labelled f (literal s x k) (literal t y l) p e = e
-term_from_labelled f (literal s x k) (blank b) p e = absurd (cc)
-term_from_labelled f (blank a) (iri y) p e = absurd (cc)
-term_from_labelled f (blank a) (literal t y l) p e = absurd (cc)
-term_from_labelled f (blank a) (blank b) p e = ap blank (p a b (zero, zero-lt-suc zero, refl) (zero, zero-lt-suc zero, refl) (ap name_in e))
+graph_from_renamed : (h : Blank → Blank) (a b : Option Term) → OneToOne h (blanks_of_graph a) (blanks_of_graph b) → option_map (rename_term h) a ≡ option_map (rename_term h) b → a ≡ b
+graph_from_renamed h None None p e = refl
+graph_from_renamed h None (Some b) p e = absurd (cc)
+graph_from_renamed h (Some a) None p e = absurd (cc)
+graph_from_renamed h (Some a) (Some b) p e =
+    let same : rename_term h a ≡ rename_term h b = cc in
+    ap (λ (t : Term). Some t) (term_from_renamed h a b p same)
 
-graph_from_labelled : (f : Blank → List ℕ) (a b : Option Term) → OneToOne f (blanks_of_graph a) (blanks_of_graph b) → option_map (rename_term (named f)) a ≡ option_map (rename_term (named f)) b → a ≡ b
-graph_from_labelled f None None p e = refl
-graph_from_labelled f None (Some b) p e = absurd (cc)
-graph_from_labelled f (Some a) None p e = absurd (cc)
-graph_from_labelled f (Some a) (Some b) p e =
-    let same : rename_term (named f) a ≡ rename_term (named f) b = cc in
-    ap (λ (t : Term). Some t) (term_from_labelled f a b p same)
-
-pub statement_from_labelled : (f : Blank → List ℕ) (s t : Statement) → ((a b : Blank) → Contains (blanks_of s) a → Contains (blanks_of t) b → f a ≡ f b → a ≡ b) → labelled f s ≡ labelled f t → s ≡ t
-statement_from_labelled f s t p e =
+pub statement_from_renamed : (h : Blank → Blank) (s t : Statement) → ((a b : Blank) → Contains (blanks_of s) a → Contains (blanks_of t) b → h a ≡ h b → a ≡ b) → rename h s ≡ rename h t → s ≡ t
+statement_from_renamed h s t p e =
     same_statement s t
-    (term_from_labelled f s.subject t.subject
+    (term_from_renamed h s.subject t.subject
     (λ a b m n. p a b (Contains-append_left (blanks_of_term s.subject) (blanks_of_term s.object ++ blanks_of_graph s.graph) a m) (Contains-append_left (blanks_of_term t.subject) (blanks_of_term t.object ++ blanks_of_graph t.graph) b n))
     (ap (λ (q : Statement). q.subject) e))
     (ap (λ (q : Statement). q.predicate) e)
-    (term_from_labelled f s.object t.object
+    (term_from_renamed h s.object t.object
     (λ a b m n. p a b (Contains-append_right (blanks_of_term s.subject) (blanks_of_term s.object ++ blanks_of_graph s.graph) a (Contains-append_left (blanks_of_term s.object) (blanks_of_graph s.graph) a m)) (Contains-append_right (blanks_of_term t.subject) (blanks_of_term t.object ++ blanks_of_graph t.graph) b (Contains-append_left (blanks_of_term t.object) (blanks_of_graph t.graph) b n)))
     (ap (λ (q : Statement). q.object) e))
-    (graph_from_labelled f s.graph t.graph
+    (graph_from_renamed h s.graph t.graph
     (λ a b m n. p a b (Contains-append_right (blanks_of_term s.subject) (blanks_of_term s.object ++ blanks_of_graph s.graph) a (Contains-append_right (blanks_of_term s.object) (blanks_of_graph s.graph) a m)) (Contains-append_right (blanks_of_term t.subject) (blanks_of_term t.object ++ blanks_of_graph t.graph) b (Contains-append_right (blanks_of_term t.object) (blanks_of_graph t.graph) b n)))
     (ap (λ (q : Statement). q.graph) e))
 
 pub line_names_statement : (f : Blank → List ℕ) (s t : Statement) → IsStatement s → IsStatement t → HasLabels f s → HasLabels f t → ((a b : Blank) → Contains (blanks_of s) a → Contains (blanks_of t) b → f a ≡ f b → a ≡ b) → line f s ≡ line f t → s ≡ t
-line_names_statement f s t i j p q o e = statement_from_labelled f s t o (line_one_reading f f s t i j p q e)
+line_names_statement f s t i j p q o e = statement_from_renamed (named f) s t (λ a b m n k. o a b m n (ap (λ (z : Blank). z.name) k)) (line_one_reading f f s t i j p q e)
 
 -- ---- a line holds no other line feed
 

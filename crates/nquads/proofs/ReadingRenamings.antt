@@ -1,11 +1,12 @@
 -- To be the same up to the names of blank nodes is an equivalence.
-use Rattle.std.proofs.Common.{◌≡◌, List, [], ◌∷◌, map, All, Contains, refl, sym, ap, ◌∙◌, subst, inl, inr}
+use Rattle.std.proofs.Common.{◌≡◌, List, [], ◌∷◌, map, All, Contains, refl, sym, ap, ◌∙◌, subst, inl, inr, Option, Some, None, IfSome, option_map}
 use Rattle.std.proofs.lemmas.List.Elements.{All-contains}
 use Rattle.std.specs.List.{flat_map}
 use Rattle.base_types.specs.Sets.{AllDiffer, SameElements}
-use Rattle.nquads.specs.Terms.{Blank, Statement}
-use Rattle.nquads.specs.Renaming.{same_blank, blanks_of, rename, Pair, IsRenaming, applied, Same, IsOneToOne}
+use Rattle.nquads.specs.Terms.{Blank, Term, iri, literal, blank, Statement, IsStatement, IsTerm, IsResource, IsDataset}
+use Rattle.nquads.specs.Renaming.{same_blank, blanks_of, rename_term, rename, Pair, IsRenaming, applied, Same, IsOneToOne}
 use Rattle.nquads.proofs.ReadingElements.{none_in_nil, here, there, head_or_tail, All-from_contains, Contains-map, from_map, AllDiffer-head, AllDiffer-tail, AllDiffer-map, SameElements-trans}
+use Rattle.nquads.proofs.ReadingLines.{statement_from_renamed}
 use Rattle.nquads.proofs.ReadingBlanks.{chosen, same_blank-true, same_blank-false, rename-rename, rename-itself, rename-agree, blanks_of-rename, distinct, distinct_keeps, from_distinct, AllDiffer-distinct, Stands, to_blanks_in, from_blanks_in}
 
 -- ---- a renaming made of a map of blank nodes
@@ -209,3 +210,38 @@ Same-from_one_to_one f q r o e =
 
 pub one_to_one-from_Same : (q r : List Statement) (e : Same q r) → IsOneToOne (applied e.pairs) q
 one_to_one-from_Same q r e a b m n k = Same-one_to_one q r e a b (from_blanks_in q a m) (from_blanks_in q b n) k
+
+-- ---- what a renaming keeps
+
+IsTerm-rename : (h : Blank → Blank) (t : Term) → IsTerm t → IsTerm (rename_term h t)
+IsTerm-rename h (iri x) i = i
+IsTerm-rename h (literal s x k) i = i
+IsTerm-rename h (blank b) i = tt
+
+IsResource-rename : (h : Blank → Blank) (t : Term) → IsResource t → IsResource (rename_term h t)
+IsResource-rename h (iri x) i = i
+IsResource-rename h (literal s x k) i = i
+IsResource-rename h (blank b) i = tt
+
+graph-rename : (h : Blank → Blank) (g : Option Term) → IfSome g IsResource → IfSome (option_map (rename_term h) g) IsResource
+graph-rename h None i = i
+graph-rename h (Some t) i = IsResource-rename h t i
+
+pub IsStatement-rename : (h : Blank → Blank) (s : Statement) → IsStatement s → IsStatement (rename h s)
+IsStatement-rename h s i = record {
+  subject = IsResource-rename h s.subject i.subject;
+  predicate = i.predicate;
+  object = IsTerm-rename h s.object i.object;
+  graph = graph-rename h s.graph i.graph;
+}
+
+pub IsDataset-rename : (h : Blank → Blank) (q : List Statement) → IsOneToOne h q → IsDataset q → IsDataset (map (rename h) q)
+IsDataset-rename h q o d =
+    AllDiffer-map (rename h) q
+    (λ s t m n e. statement_from_renamed h s t (λ a b x y k. o a b (to_blanks_in q s a m x) (to_blanks_in q t b n y) k) e) d
+
+pub IsStatement-from_Same : (q r : List Statement) → Same q r → All IsStatement q → All IsStatement r
+IsStatement-from_Same q r e i =
+    All-from_contains IsStatement r
+    (λ t m. let found = from_map (rename (applied e.pairs)) q t ((e.renamed t).1 m) in
+    subst IsStatement found.2 (IsStatement-rename (applied e.pairs) found.0 (All-contains IsStatement q found.0 i found.1)))

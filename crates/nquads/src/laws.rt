@@ -12,7 +12,7 @@ ghost use Rattle.nquads.specs.Lines.{
 };
 ghost use Rattle.nquads.specs.Renaming.{IsOneToOne, Same, applied, rename};
 ghost use Rattle.nquads.specs.Spelling.{spelled, spelling};
-ghost use Rattle.nquads.specs.Terms.{Blank, IsStatement, IsTerm, Statement, Term};
+ghost use Rattle.nquads.specs.Terms.{Blank, IsDataset, IsStatement, IsTerm, Statement, Term};
 ghost use Rattle.std.specs.List.{concat};
 ghost use Rattle.std.specs.Prelude.{All, Contains, List, map, ◌∷◌, ◌≡◌, ℕ};
 
@@ -78,6 +78,14 @@ pub fn renaming_carries_labels()
         → line f (rename h s) ≡ line (λ b. f (h b)) s }
     ensures text { (f : Blank → List ℕ) (q r : List Statement) (s : Same q r)
         → canonical_text f r ≡ canonical_text (λ b. f (applied s.pairs b)) q }
+{}
+
+/// A renaming keeps statements well formed, and a dataset without repeats.
+pub fn renaming_keeps_datasets()
+    ensures statement { (h : Blank → Blank) (s : Statement) → IsStatement s → IsStatement (rename h s) }
+    ensures dataset { (h : Blank → Blank) (q : List Statement) → IsOneToOne h q → IsDataset q
+        → IsDataset (map (rename h) q) }
+    ensures same { (q r : List Statement) → Same q r → All IsStatement q → All IsStatement r }
 {}
 
 /// To be the same up to the names of blank nodes is an equivalence, and datasets with the same
