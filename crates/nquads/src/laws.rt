@@ -11,10 +11,10 @@ ghost use Rattle.nquads.specs.Lines.{
   line,
 };
 ghost use Rattle.nquads.specs.Renaming.{IsOneToOne, Same, applied, rename};
-ghost use Rattle.nquads.specs.Spelling.{spelled, spelling};
-ghost use Rattle.nquads.specs.Terms.{Blank, IsDataset, IsStatement, IsTerm, Statement, Term};
-ghost use Rattle.std.specs.List.{concat};
-ghost use Rattle.std.specs.Prelude.{All, Contains, List, map, ◌∷◌, ◌≡◌, ℕ};
+ghost use Rattle.nquads.specs.Spelling.{escape, spelled, spelling};
+ghost use Rattle.nquads.specs.Terms.{Blank, by_node, IsDataset, IsStatement, IsTerm, Statement, Term, iri, literal, blank, rdf_lang_string, xsd_string};
+ghost use Rattle.std.specs.List.{concat, flat_map};
+ghost use Rattle.std.specs.Prelude.{All, Contains, List, map, [], ◌∷◌, ◌++◌, ◌≡◌, ℕ, codes, Some, None};
 
 /// A text is the spelling of one term at most, so texts are compared in place of terms.
 pub fn spelling_has_one_reading()
@@ -103,4 +103,34 @@ pub fn same_is_a_map_one_to_one()
     ensures from_map { (f : Blank → Blank) (q r : List Statement) → IsOneToOne f q
         → SameElements (map (rename f) q) r → Same q r }
     ensures to_map { (q r : List Statement) (s : Same q r) → IsOneToOne (applied s.pairs) q }
+{}
+
+/// Worked rows: the escapes, the first and the last byte of each range of them, and three whole lines.
+/// RDF Canonicalization, the canonical form of N-Quads.
+pub fn worked_lines()
+    ensures escapes { flat_map escape (8 ∷ 9 ∷ 10 ∷ 12 ∷ 13 ∷ 34 ∷ 92 ∷ [])
+        ≡ codes "\\b\\t\\n\\f\\r\\\"\\\\" }
+    ensures controls { flat_map escape (0 ∷ 7 ∷ 11 ∷ 14 ∷ 31 ∷ 32 ∷ 126 ∷ 127 ∷ 128 ∷ [])
+        ≡ codes "\\u0000\\u0007\\u000B\\u000E\\u001F ~\\u007F" ++ 128 ∷ [] }
+    ensures named_graph { line (λ b. codes "c14n0") (record {
+      subject = blank (record { kind = by_node; name = [] });
+      predicate = codes "http://example.org/p";
+      object = literal (codes "chat") rdf_lang_string (Some (codes "fr"));
+      graph = Some (iri (codes "http://example.org/g"));
+    })
+        ≡ codes "_:c14n0 <http://example.org/p> \"chat\"@fr <http://example.org/g> .\n" }
+    ensures default_graph { line (λ b. []) (record {
+      subject = iri (codes "http://example.org/s");
+      predicate = codes "http://example.org/p";
+      object = literal (codes "chat") xsd_string None;
+      graph = None;
+    })
+        ≡ codes "<http://example.org/s> <http://example.org/p> \"chat\" .\n" }
+    ensures datatype { line (λ b. []) (record {
+      subject = iri (codes "http://example.org/s");
+      predicate = codes "http://example.org/p";
+      object = literal (codes "1") (codes "http://www.w3.org/2001/XMLSchema#integer") None;
+      graph = None;
+    })
+        ≡ codes "<http://example.org/s> <http://example.org/p> \"1\"^^<http://www.w3.org/2001/XMLSchema#integer> .\n" }
 {}
