@@ -1,0 +1,4 @@
+pub mod Devices
+pub mod Exact
+pub mod Ledgers
+pub mod Tables

@@ -1,0 +1,22 @@
+//! The key device: whatever holds secret keys, signs under them and checks signatures.
+//!
+//! The rest of the program asks for signatures through the trait `KeyDevice` alone, so what it promises
+//! rests on that trait's laws and on no scheme of signatures. `LedgerDevice` is the exact device: it
+//! accepts just what it signed, and its keys, signatures and secrets can be told beforehand. `KeyTable`
+//! says which key a verification method of a Data Integrity proof stands for (VC Data Integrity, 2.1).
+#![tactic(auto)]
+
+mod device;
+mod keys;
+mod ledger;
+mod table;
+#[cfg(test)]
+mod tests;
+mod uses;
+
+pub use base_types::{Memory, Sequence, Text};
+pub use device::{DeviceError, KeyDevice, SignedEntry};
+pub use keys::{KeyName, Signature};
+pub use ledger::LedgerDevice;
+pub use table::{KeyEntry, KeyTable};
+pub use uses::{sign_and_check, sign_for_record, sign_with_fresh_key};

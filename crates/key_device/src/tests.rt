@@ -1,0 +1,126 @@
+use super::*;
+use std::test::Fail;
+
+/// A key of zero bytes but for the second and the last.
+fn key(second: u8, last: u8) -> KeyName {
+    let mut bytes = [0; 35];
+    bytes[1] = second;
+    bytes[34] = last;
+    KeyName { bytes }
+}
+
+/// A signature of zero bytes but for the first and the last.
+fn signature(first: u8, last: u8) -> Signature {
+    let mut bytes = [0; 64];
+    bytes[0] = first;
+    bytes[63] = last;
+    Signature { bytes }
+}
+
+/// A secret of zero bytes but for the last.
+fn secret(last: u8) -> [u8; 32] {
+    let mut bytes = [0; 32];
+    bytes[31] = last;
+    bytes
+}
+
+#[test]
+fn signs_and_checks(rt: HostRuntime) -> Result<(), Fail> {
+    let mut ledger = LedgerDevice::new(rt.alloc(), &[key(0, 0), key(0, 7)])?;
+    assert_eq!(rt; ledger.sign(&key(0, 1), b"ab"), Err(DeviceError::NoKey));
+    assert_eq!(rt; ledger.sign(&key(0, 0), b"ab"), Ok(signature(0, 1)));
+    assert_eq!(rt; ledger.sign(&key(0, 7), b""), Ok(signature(0, 2)));
+    assert_eq!(rt; ledger.sign(&key(0, 7), b"ab"), Ok(signature(0, 3)));
+    let cases: [(KeyName, &[u8], Signature, bool); 11] = [
+        (key(0, 0), b"ab", signature(0, 1), true),
+        (key(0, 7), b"", signature(0, 2), true),
+        (key(0, 7), b"ab", signature(0, 3), true),
+        (key(0, 7), b"ab", signature(0, 1), false),
+        (key(0, 1), b"ab", signature(0, 1), false),
+        (key(0, 0), b"ac", signature(0, 1), false),
+        (key(0, 0), b"a", signature(0, 1), false),
+        (key(0, 0), b"ab", signature(0, 3), false),
+        (key(0, 0), b"ab", signature(1, 1), false),
+        (key(0, 0), b"ab", signature(0, 0), false),
+        (key(0, 0), b"ab", signature(0, 4), false),
+    ];
+    for (name, bytes, mark, accepted) in cases {
+        assert_eq!(rt; ledger.check(&name, bytes, &mark), Ok(accepted));
+    }
+    Ok(())
+}
+
+#[test]
+fn fresh_keys_pass_over_owned_ones(rt: HostRuntime) -> Result<(), Fail> {
+    let mut ledger = LedgerDevice::new(rt.alloc(), &[key(1, 2), key(0, 0), key(1, 1)])?;
+    assert_eq!(rt; ledger.fresh_key(), Ok(key(1, 3)));
+    assert_eq!(rt; ledger.fresh_key(), Ok(key(1, 4)));
+    let mut other = LedgerDevice::new(rt.alloc(), &[key(1, 2), key(1, 2)])?;
+    assert_eq!(rt; other.sign(&key(1, 1), b"a"), Err(DeviceError::NoKey));
+    assert_eq!(rt; other.fresh_key(), Ok(key(1, 1)));
+    assert_eq!(rt; other.fresh_key(), Ok(key(1, 3)));
+    assert_eq!(rt; other.sign(&key(1, 1), b"a"), Ok(signature(0, 1)));
+    Ok(())
+}
+
+#[test]
+fn secrets_in_order(rt: HostRuntime) -> Result<(), Fail> {
+    let mut ledger = LedgerDevice::new(rt.alloc(), &[])?;
+    for number in 1..4 {
+        assert_eq!(rt; ledger.fresh_secret(), Ok(secret(number)));
+    }
+    Ok(())
+}
+
+/// What a caller that knows the trait alone gets: a checked signature, and one under a fresh key.
+fn through_the_bound<D: KeyDevice>(
+    device: &mut D,
+    name: &KeyName,
+) -> Result<(bool, Signature, KeyName, Signature), DeviceError> {
+    let yes = sign_and_check(device, name, b"ab")?;
+    let second = sign_for_record(device, name, b"ab")?;
+    let (fresh, third) = sign_with_fresh_key(device, b"cd")?;
+    Ok((yes, second, fresh, third))
+}
+
+#[test]
+fn any_device(rt: HostRuntime) -> Result<(), Fail> {
+    let mut ledger = LedgerDevice::new(rt.alloc(), &[key(0, 0)])?;
+    assert_eq!(rt;
+        through_the_bound(&mut ledger, &key(0, 0)),
+        Ok((true, signature(0, 2), key(1, 1), signature(0, 3)))
+    );
+    assert_eq!(rt;
+        through_the_bound(&mut ledger, &key(0, 9)),
+        Err(DeviceError::NoKey)
+    );
+    Ok(())
+}
+
+#[test]
+fn names_and_tables(rt: HostRuntime) -> Result<(), Fail> {
+    let bytes = [7; 36];
+    assert_eq!(rt; KeyName::from_slice(&bytes[..34]), None);
+    assert_eq!(rt;
+        KeyName::from_slice(&bytes[..35]),
+        Some(KeyName { bytes: [7; 35] })
+    );
+    assert_eq!(rt; KeyName::from_slice(&bytes), None);
+
+    let mut entries = Sequence::new(rt.alloc());
+    for (method, name) in [
+        ("urn:a", key(0, 1)),
+        ("urn:b", key(0, 2)),
+        ("urn:b", key(0, 3)),
+    ] {
+        entries.push(KeyEntry {
+            method: Text::from_str(rt.alloc(), method)?,
+            key: name,
+        })?;
+    }
+    let table = KeyTable { entries };
+    assert_eq!(rt; table.find("urn:a"), Some(key(0, 1)));
+    assert_eq!(rt; table.find("urn:b"), Some(key(0, 2)));
+    assert_eq!(rt; table.find("urn:"), None);
+    Ok(())
+}
