@@ -1,20 +1,22 @@
 //! What the laws of a key device give a caller, over any device.
-ghost use Rattle.std.specs.Prelude.{◌≡◌, ◌≢◌, ◌≤◌, true, false, List, [], ◌∷◌, ◌++◌, Some, Contains, IfOk, IfSome, IsErrOf};
+ghost use Rattle.std.specs.Prelude.{◌≡◌, ◌≢◌, ◌≤◌, true, false, List, [], ◌∷◌, ◌++◌, Some, Contains, IfOk, IfSome, OnOk, IsErrOf};
 ghost use Rattle.key_device.specs.declared.device.DeviceError.TheVariants.{Failed, NoKey};
 ghost use Rattle.key_device.specs.declared.device.SignedEntry.{SignedEntry};
+ghost use Rattle.key_device.specs.declared.keys.Signature.{Signature};
 ghost use Rattle.key_device.specs.Devices.{AcceptsExactly, GrewBy, HasRisen, entry};
 
 use crate::device::{DeviceError, KeyDevice};
 use crate::keys::{KeyName, Signature};
 
-/// Signs `bytes` under `key`, and checks the signature: the answer is yes, unless a fault was counted
-/// or the device does not own the key.
+/// Signs `bytes` under `key`, and checks the signature: the answer is yes, and the record has grown by
+/// that signature, unless a fault was counted or the device does not own the key.
 pub fn sign_and_check<D: KeyDevice>(
     device: &mut D,
     key: &KeyName,
     bytes: &[u8],
 ) -> Result<bool, DeviceError>
     ensures yes { IfOk result (λ yes. yes ≡ true) }
+    ensures signed { OnOk result ((signature : Signature) × (D.accepts device.new key.now bytes.now signature ≡ true) × GrewBy (entry key.now bytes.now signature) (D.signed device.old) (D.signed device.new)) }
     ensures no_key { IsErrOf result NoKey → D.owns device.old key.now ≡ false }
     ensures failed { IsErrOf result Failed → HasRisen (D.faults device.old) (D.faults device.new) }
     ensures counted { D.faults device.old ≤ D.faults device.new }
@@ -46,6 +48,7 @@ pub fn sign_with_fresh_key<D: KeyDevice>(
     ensures recorded { IfOk result (λ made. GrewBy (entry made.0 bytes.now made.1) (D.signed device.old) (D.signed device.new)) }
     ensures unused { D.exact device.old ≡ true → IfOk result (λ made. IfSome (D.signed device.old) (λ entries. (e : SignedEntry) → Contains entries e → e.key ≢ made.0)) }
     ensures failed { IsErrOf result Failed → HasRisen (D.faults device.old) (D.faults device.new) }
+    ensures counted { D.faults device.old ≤ D.faults device.new }
 {
     let key = device.fresh_key()?;
     let signature = device.sign(&key, bytes)?;
