@@ -1,5 +1,5 @@
 -- What a key device means to its callers: what it accepts, which keys it owns and what it signed.
-use Rattle.std.specs.Prelude.{◌≡◌, ◌↔◌, ◌⊎◌, ◌<◌, ◌-◌, ◌^◌, ℕ, Bool, true, List, [], ◌∷◌, ◌++◌, Option, Some, None, Contains, IsTrue}
+use Rattle.std.specs.Prelude.{◌≡◌, ◌↔◌, ℕ, Bool, true, List, [], ◌∷◌, ◌++◌, Option, Some, None, Contains, IsTrue}
 use Rattle.key_device.specs.declared.keys.KeyName.{KeyName}
 use Rattle.key_device.specs.declared.keys.Signature.{Signature}
 use Rattle.key_device.specs.declared.device.SignedEntry.{SignedEntry}
@@ -15,10 +15,6 @@ Ownership = KeyName → Bool
 -- a key, the bytes signed under it, and the signature
 abbrev pub entry : KeyName → List ℕ → Signature → SignedEntry
 entry key bytes signature = record { key = key; bytes = bytes; signature = signature }
-
--- a count of faults rose in a call: it is greater at the end, or stands at the greatest u64
-abbrev pub HasRisen : ℕ → ℕ → Type 0
-HasRisen before after = (before < after) ⊎ (after ≡ 2 ^ 64 - 1)
 
 -- exactly what was accepted before is accepted after
 abbrev pub AcceptsSame : Acceptance → Acceptance → Type 0

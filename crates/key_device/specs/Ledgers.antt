@@ -1,5 +1,5 @@
 -- The ledger device: it accepts just what it signed, and numbers its signatures, keys and secrets.
-use Rattle.std.specs.Prelude.{◌≡◌, ◌<◌, ◌≤◌, ◌+◌, ◌-◌, ◌^◌, ℕ, min, Bool, true, false, ◌&&◌, List, ◌∷◌, ◌++◌, length, take, drop, replicate}
+use Rattle.std.specs.Prelude.{◌≡◌, ◌<◌, ◌≤◌, ◌+◌, ℕ, Bool, true, false, ◌&&◌, List, ◌∷◌, ◌++◌, length, take, drop, replicate}
 use Rattle.std.proofs.Common.{get_or}
 use Rattle.std.specs.List.{list_any, list_all}
 use Rattle.std.specs.Int.{w64, to_be_bytes, from_be_bytes}
@@ -59,10 +59,6 @@ IsNumbered entries = (i : ℕ) (d : SignedEntry) → i < length entries → (get
 pub record IsKept (owned : List KeyName) (entries : List SignedEntry) : Type 0 where
   pub under_owned : signed_under owned entries ≡ true
   pub in_order : IsNumbered entries
-
--- the next of a count that stays at the greatest u64
-abbrev pub next_count : ℕ → ℕ
-next_count count = min (count + 1) (2 ^ 64 - 1)
 
 -- n is the least number from 1 whose key is not owned
 pub record IsNextFree (owns : Ownership) (n : ℕ) : Type 0 where

@@ -1,7 +1,8 @@
 ghost use Rattle.std.specs.Prelude.{◌≡◌, ◌≤◌, ℕ, List, Bool, true, false, Option, IfOk, OnOk, OnErr, IsErrOf};
 ghost use Rattle.key_device.specs.declared.device.SignedEntry.{SignedEntry};
 ghost use Rattle.key_device.specs.declared.device.DeviceError.TheVariants.{Failed, NoKey};
-ghost use Rattle.key_device.specs.Devices.{Acceptance, Ownership, AcceptsSame, StillAccepts, OwnsSame, StillOwns, GrewBy, IsSecretTold, HasRisen, MeansItsRecord, entry};
+ghost use Rattle.base_types.specs.Counts.{HasRisen};
+ghost use Rattle.key_device.specs.Devices.{Acceptance, Ownership, AcceptsSame, StillAccepts, OwnsSame, StillOwns, GrewBy, IsSecretTold, MeansItsRecord, entry};
 
 use crate::keys::{KeyName, Signature};
 use base_types::{Memory, Sequence};

@@ -3,7 +3,8 @@ ghost use Rattle.std.specs.Str.{bytes_eq};
 ghost use Rattle.key_device.specs.declared.device.DeviceError.TheVariants as error;
 ghost use Rattle.key_device.specs.declared.keys.KeyName.{KeyName};
 ghost use Rattle.key_device.specs.Devices.{StillAccepts, OwnsSame, StillOwns, entry};
-ghost use Rattle.key_device.specs.Ledgers.{has_key, has_entry, numbered_signature, numbered_key, numbered_secret, next_count, signed_under, signature_number, is_entry, IsNumbered, IsNextFree};
+ghost use Rattle.base_types.specs.Counts.{one_more};
+ghost use Rattle.key_device.specs.Ledgers.{has_key, has_entry, numbered_signature, numbered_key, numbered_secret, signed_under, signature_number, is_entry, IsNumbered, IsNextFree};
 
 use crate::device::{DeviceError, KeyDevice, SignedEntry};
 use crate::keys::{KeyName, Signature};
@@ -147,7 +148,8 @@ fn next_free(owned: &BTreeSet<KeyName>) -> KeyName
 
 impl KeyDevice for LedgerDevice {
     ghost use Rattle.std.specs.Prelude.{Some};
-    ghost use Rattle.key_device.specs.Ledgers.{has_key, has_entry, signed_under, numbered_secret, next_count};
+    ghost use Rattle.base_types.specs.Counts.{one_more};
+    ghost use Rattle.key_device.specs.Ledgers.{has_key, has_entry, signed_under, numbered_secret};
     ghost use Rattle.key_device.specs.Exact.{ledger_means};
 
     ghost accepts = { λ d. has_entry d.signed };
@@ -156,7 +158,7 @@ impl KeyDevice for LedgerDevice {
 
     ghost signed = { λ d. Some d.signed };
 
-    ghost next_secret = { λ d. Some (numbered_secret (next_count d.secrets)) };
+    ghost next_secret = { λ d. Some (numbered_secret (one_more d.secrets)) };
 
     ghost faults = { λ d. 0 };
 
@@ -219,8 +221,8 @@ impl KeyDevice for LedgerDevice {
     }
 
     fn fresh_secret(&mut self) -> Result<[u8; 32], DeviceError>
-        ensures secret { result ≡ Ok (numbered_secret (next_count self.old.secrets)) }
-        ensures counts { self.new ≡ record self.old { secrets = next_count self.old.secrets } }
+        ensures secret { result ≡ Ok (numbered_secret (one_more self.old.secrets)) }
+        ensures counts { self.new ≡ record self.old { secrets = one_more self.old.secrets } }
     {
         self.secrets = self.secrets.saturating_add(1);
         Ok(numbered_secret(self.secrets))

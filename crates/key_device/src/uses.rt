@@ -3,7 +3,8 @@ ghost use Rattle.std.specs.Prelude.{◌≡◌, ◌≢◌, ◌≤◌, true, false
 ghost use Rattle.key_device.specs.declared.device.DeviceError.TheVariants.{Failed, NoKey};
 ghost use Rattle.key_device.specs.declared.device.SignedEntry.{SignedEntry};
 ghost use Rattle.key_device.specs.declared.keys.Signature.{Signature};
-ghost use Rattle.key_device.specs.Devices.{AcceptsExactly, GrewBy, HasRisen, entry};
+ghost use Rattle.base_types.specs.Counts.{HasRisen};
+ghost use Rattle.key_device.specs.Devices.{AcceptsExactly, GrewBy, entry};
 
 use crate::device::{DeviceError, KeyDevice};
 use crate::keys::{KeyName, Signature};
