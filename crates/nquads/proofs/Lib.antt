@@ -8,7 +8,6 @@ pub mod ReadingTerms
 pub mod ReadingLines
 pub mod ReadingElements
 pub mod ReadingDatasets
-pub mod ReadingOrder
 pub mod ReadingBlanks
 pub mod ReadingRenamings
 pub mod ReadingSame

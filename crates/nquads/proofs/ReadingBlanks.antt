@@ -8,7 +8,8 @@ use Rattle.std.specs.List.{flat_map}
 use Rattle.base_types.specs.Sets.{AllDiffer}
 use Rattle.nquads.specs.Terms.{BlankKind, by_label, by_node, by_graph, by_cell, Blank, Term, iri, literal, blank, Statement}
 use Rattle.nquads.specs.Renaming.{same_kind, same_blank, blanks_of_term, blanks_of_graph, blanks_of, rename_term, rename, StandsIn}
-use Rattle.nquads.proofs.ReadingElements.{none_in_nil, here, there, head_or_tail, AllDiffer-nil, AllDiffer-cons}
+use Rattle.base_types.proofs.Lists.{Contains-nil, Contains-here, Contains-there, Contains-cons_cases}
+use Rattle.nquads.proofs.ReadingElements.{AllDiffer-nil, AllDiffer-cons}
 use Rattle.nquads.proofs.ReadingTerms.{same_blank_node, same_statement}
 
 -- ---- whether two blank nodes are one
@@ -57,7 +58,7 @@ chosen false x y z p q = q refl
 rename_term-rename_term : (f g h : Blank → Blank) (t : Term) → ((b : Blank) → Contains (blanks_of_term t) b → f (g b) ≡ h b) → rename_term f (rename_term g t) ≡ rename_term h t
 rename_term-rename_term f g h (iri x) p = refl
 rename_term-rename_term f g h (literal s x k) p = refl
-rename_term-rename_term f g h (blank b) p = ap blank (p b (here b []))
+rename_term-rename_term f g h (blank b) p = ap blank (p b (Contains-here b []))
 
 rename_graph-rename_graph : (f g h : Blank → Blank) (t : Option Term) → ((b : Blank) → Contains (blanks_of_graph t) b → f (g b) ≡ h b) → option_map (rename_term f) (option_map (rename_term g) t) ≡ option_map (rename_term h) t
 rename_graph-rename_graph f g h None p = refl
@@ -116,8 +117,8 @@ distinct [] = []
 distinct (b ∷ bs) = if has bs b then distinct bs else b ∷ distinct bs
 
 has_cases : (t r : Bool) (c b : Blank) (cs : List Blank) → (t ≡ true → c ≡ b) → (r ≡ true → Contains cs b) → (if t then true else r) ≡ true → Contains (c ∷ cs) b
-has_cases true r c b cs p q e = subst (λ (z : Blank). Contains (c ∷ cs) z) (p refl) (here c cs)
-has_cases false r c b cs p q e = there c cs b (q e)
+has_cases true r c b cs p q e = subst (λ (z : Blank). Contains (c ∷ cs) z) (p refl) (Contains-here c cs)
+has_cases false r c b cs p q e = Contains-there c cs b (q e)
 
 pub has-true : (cs : List Blank) (b : Blank) → has cs b ≡ true → Contains cs b
 unfolding has
@@ -126,23 +127,23 @@ has-true (c ∷ cs) b e = has_cases (same_blank c b) (has cs b) c b cs (same_bla
 
 hasnt_cases : (t r : Bool) (c b : Blank) (cs : List Blank) → (t ≡ false → c ≡ b → ⊥) → (r ≡ false → Contains cs b → ⊥) → (if t then true else r) ≡ false → Contains (c ∷ cs) b → ⊥
 hasnt_cases true r c b cs p q e m = false≢true (sym e)
-hasnt_cases false r c b cs p q e m = elim (head_or_tail c cs b m) [ inl h ↦ p refl h | inr n ↦ q e n ]
+hasnt_cases false r c b cs p q e m = elim (Contains-cons_cases c cs b m) [ inl h ↦ p refl h | inr n ↦ q e n ]
 
 pub has-false : (cs : List Blank) (b : Blank) → has cs b ≡ false → Contains cs b → ⊥
 unfolding has
-has-false [] b e m = none_in_nil b m
+has-false [] b e m = Contains-nil b m
 has-false (c ∷ cs) b e m = hasnt_cases (same_blank c b) (has cs b) c b cs (same_blank-false c b) (has-false cs b) e m
 
 distinct_step : (t : Bool) (b : Blank) (bs ds : List Blank) (x : Blank) → (t ≡ true → Contains bs b) → ((y : Blank) → Contains bs y → Contains ds y) → Contains (b ∷ bs) x → Contains (if t then ds else b ∷ ds) x
 distinct_step true b bs ds x p h m =
-    elim (head_or_tail b bs x m) [
+    elim (Contains-cons_cases b bs x m) [
       | inl e ↦ subst (λ (z : Blank). Contains ds z) e (h b (p refl))
       | inr n ↦ h x n
     ]
 distinct_step false b bs ds x p h m =
-    elim (head_or_tail b bs x m) [
-      | inl e ↦ subst (λ (z : Blank). Contains (b ∷ ds) z) e (here b ds)
-      | inr n ↦ there b ds x (h x n)
+    elim (Contains-cons_cases b bs x m) [
+      | inl e ↦ subst (λ (z : Blank). Contains (b ∷ ds) z) e (Contains-here b ds)
+      | inr n ↦ Contains-there b ds x (h x n)
     ]
 
 pub distinct_keeps : (bs : List Blank) (x : Blank) → Contains bs x → Contains (distinct bs) x
@@ -151,11 +152,11 @@ distinct_keeps [] x m = m
 distinct_keeps (b ∷ bs) x m = distinct_step (has bs b) b bs (distinct bs) x (has-true bs b) (λ y n. distinct_keeps bs y n) m
 
 undistinct_step : (t : Bool) (b : Blank) (bs ds : List Blank) (x : Blank) → ((y : Blank) → Contains ds y → Contains bs y) → Contains (if t then ds else b ∷ ds) x → Contains (b ∷ bs) x
-undistinct_step true b bs ds x h m = there b bs x (h x m)
+undistinct_step true b bs ds x h m = Contains-there b bs x (h x m)
 undistinct_step false b bs ds x h m =
-    elim (head_or_tail b ds x m) [
-      | inl e ↦ subst (λ (z : Blank). Contains (b ∷ bs) z) e (here b bs)
-      | inr n ↦ there b bs x (h x n)
+    elim (Contains-cons_cases b ds x m) [
+      | inl e ↦ subst (λ (z : Blank). Contains (b ∷ bs) z) e (Contains-here b bs)
+      | inr n ↦ Contains-there b bs x (h x n)
     ]
 
 pub from_distinct : (bs : List Blank) (x : Blank) → Contains (distinct bs) x → Contains bs x
@@ -179,17 +180,17 @@ pub record Stands (q : List Statement) (b : Blank) : Type 0 where
   pub blank_node : Contains (blanks_of statement) b
 
 pub to_blanks_in : (q : List Statement) (s : Statement) (b : Blank) → Contains q s → Contains (blanks_of s) b → StandsIn q b
-to_blanks_in [] s b m n = absurd (none_in_nil s m)
+to_blanks_in [] s b m n = absurd (Contains-nil s m)
 to_blanks_in (t ∷ q) s b m n =
-    elim (head_or_tail t q s m) [
+    elim (Contains-cons_cases t q s m) [
       | inl e ↦ Contains-append_left (blanks_of t) (flat_map blanks_of q) b (subst (λ (z : Statement). Contains (blanks_of z) b) (sym e) n)
       | inr k ↦ Contains-append_right (blanks_of t) (flat_map blanks_of q) b (to_blanks_in q s b k n)
     ]
 
 pub from_blanks_in : (q : List Statement) (b : Blank) → StandsIn q b → Stands q b
-from_blanks_in [] b m = absurd (none_in_nil b m)
+from_blanks_in [] b m = absurd (Contains-nil b m)
 from_blanks_in (s ∷ q) b m =
     elim (Contains-append_cases (blanks_of s) (flat_map blanks_of q) b m) [
-      | inl n ↦ record { statement = s; within = here s q; blank_node = n }
-      | inr n ↦ let r = from_blanks_in q b n in record { statement = r.statement; within = there s q r.statement r.within; blank_node = r.blank_node }
+      | inl n ↦ record { statement = s; within = Contains-here s q; blank_node = n }
+      | inr n ↦ let r = from_blanks_in q b n in record { statement = r.statement; within = Contains-there s q r.statement r.within; blank_node = r.blank_node }
     ]

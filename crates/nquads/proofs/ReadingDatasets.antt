@@ -5,14 +5,15 @@ use Rattle.base_types.specs.Sets.{SameElements}
 use Rattle.nquads.specs.Terms.{Blank, Statement, IsStatement}
 use Rattle.nquads.specs.Renaming.{blanks_of, StandsIn}
 use Rattle.nquads.specs.Lines.{line, labelled, HasLabels, IsLine, LabelsDiffer, canonical_lines, canonical_text}
-use Rattle.nquads.proofs.ReadingElements.{Contains-map, from_map, All-from_contains, head_or_tail, none_in_nil, from_rising, to_rising}
+use Rattle.base_types.proofs.Lists.{Contains-map, Contains-from_map, Contains-cons_cases, Contains-nil}
+use Rattle.nquads.proofs.ReadingElements.{All-from_contains, from_rising, to_rising}
 use Rattle.nquads.proofs.ReadingLines.{line_one_reading, line_names_statement, IsLine-line, one_split}
 
 to_canonical_lines : (f : Blank → List ℕ) (q : List Statement) (s : Statement) → Contains q s → Contains (canonical_lines f q) (line f s)
 to_canonical_lines f q s m = to_rising (map (line f) q) (line f s) (Contains-map (line f) q s m)
 
 from_canonical_lines : (f : Blank → List ℕ) (q : List Statement) (l : List ℕ) → Contains (canonical_lines f q) l → (s : Statement) × Contains q s × (line f s ≡ l)
-from_canonical_lines f q l m = from_map (line f) q l (from_rising (map (line f) q) l m)
+from_canonical_lines f q l m = Contains-from_map (line f) q l (from_rising (map (line f) q) l m)
 
 pub canonical_lines_are_lines : (f : Blank → List ℕ) (q : List Statement) → All IsStatement q → All (HasLabels f) q → All IsLine (canonical_lines f q)
 canonical_lines_are_lines f q i h =
@@ -26,7 +27,7 @@ text_determines_lines f g q r i j p n e =
 
 found_again : (f g : Blank → List ℕ) (q r : List Statement) → All IsStatement q → All IsStatement r → All (HasLabels f) q → All (HasLabels g) r → canonical_lines f q ≡ canonical_lines g r → (t : Statement) → Contains (map (labelled f) q) t → Contains (map (labelled g) r) t
 found_again f g q r i j p n e t m =
-    let a = from_map (labelled f) q t m in
+    let a = Contains-from_map (labelled f) q t m in
     let b = from_canonical_lines g r (line f a.0) (subst (λ (ls : List (List ℕ)). Contains ls (line f a.0)) e (to_canonical_lines f q a.0 a.1)) in
     let same : labelled g b.0 ≡ t = line_one_reading g f b.0 a.0 (All-contains IsStatement r b.0 j b.1) (All-contains IsStatement q a.0 i a.1) (All-contains (HasLabels g) r b.0 n b.1) (All-contains (HasLabels f) q a.0 p a.1) b.2 ∙ a.2 in
     subst (λ (z : Statement). Contains (map (labelled g) r) z) same (Contains-map (labelled g) r b.0 b.1)
@@ -37,9 +38,9 @@ text_determines_statements f g q r i j p n e =
     λ t. (found_again f g q r i j p n lines t, found_again g f r q j i n p (sym lines) t)
 
 pub StandsIn-from_statement : (q : List Statement) (s : Statement) (b : Blank) → Contains q s → Contains (blanks_of s) b → StandsIn q b
-StandsIn-from_statement [] s b m n = absurd (none_in_nil s m)
+StandsIn-from_statement [] s b m n = absurd (Contains-nil s m)
 StandsIn-from_statement (t ∷ q) s b m n =
-    elim (head_or_tail t q s m) [
+    elim (Contains-cons_cases t q s m) [
       | inl e ↦ Contains-append_left (blanks_of t) (flat_map blanks_of q) b (subst (λ (z : Statement). Contains (blanks_of z) b) (sym e) n)
       | inr k ↦ Contains-append_right (blanks_of t) (flat_map blanks_of q) b (StandsIn-from_statement q s b k n)
     ]

@@ -2,7 +2,7 @@
 use Rattle.std.proofs.Common.{◌≡◌, ℕ, zero, List, [], ◌∷◌, ◌++◌, All, Contains, Bool, true, false, refl, sym, ap, ap₂, ◌∙◌, arith, append_assoc, zero-lt-suc, Option, Some, None, IfSome, option_map, if◌then◌else◌, bytes_eq}
 use Rattle.std.proofs.lemmas.List.Elements.{All-head, All-tail, Contains-append_left, Contains-append_right}
 use Rattle.std.specs.List.{flat_map, concat}
-use Rattle.nquads.specs.Terms.{Blank, Term, iri, literal, blank, Statement, IsIri, IsLabel, IsTerm, IsResource, IsStatement, xsd_string}
+use Rattle.nquads.specs.Terms.{Blank, Term, iri, literal, blank, Statement, HasIriCharacters, IsLabel, IsTerm, IsResource, IsStatement, xsd_string}
 use Rattle.nquads.specs.Renaming.{blanks_of_term, blanks_of_graph, blanks_of, rename_term, rename}
 use Rattle.nquads.specs.Spelling.{escape, iri_text, literal_end}
 use Rattle.nquads.specs.Lines.{term_text, graph_text, line, labelled, HasLabels, IsLine}
@@ -102,10 +102,10 @@ line_names_statement f s t i j p q o e = statement_from_renamed (named f) s t (�
 
 -- ---- a line holds no other line feed
 
-iri_text_absent : (text : List ℕ) → IsIri text → Absent 10 (iri_text text)
+iri_text_absent : (text : List ℕ) → HasIriCharacters text → Absent 10 (iri_text text)
 iri_text_absent text i = ((omega arith), Absent-append 10 text (62 ∷ []) (iri_absent 10 text refl i) ((omega arith), tt))
 
-untagged_absent : (b : Bool) (x : List ℕ) → IsIri x → Absent 10 (if b then [] else 94 ∷ 94 ∷ iri_text x)
+untagged_absent : (b : Bool) (x : List ℕ) → HasIriCharacters x → Absent 10 (if b then [] else 94 ∷ 94 ∷ iri_text x)
 untagged_absent true x i = tt
 untagged_absent false x i = ((omega arith), ((omega arith), iri_text_absent x i))
 

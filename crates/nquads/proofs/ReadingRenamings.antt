@@ -5,7 +5,8 @@ use Rattle.std.specs.List.{flat_map}
 use Rattle.base_types.specs.Sets.{AllDiffer, SameElements}
 use Rattle.nquads.specs.Terms.{Blank, Term, iri, literal, blank, Statement, IsStatement, IsTerm, IsResource, IsDataset}
 use Rattle.nquads.specs.Renaming.{same_blank, blanks_of, rename_term, rename, Pair, IsRenaming, applied, Same, IsOneToOne}
-use Rattle.nquads.proofs.ReadingElements.{none_in_nil, here, there, head_or_tail, All-from_contains, Contains-map, from_map, AllDiffer-head, AllDiffer-tail, AllDiffer-map, SameElements-trans}
+use Rattle.base_types.proofs.Lists.{Contains-nil, Contains-here, Contains-there, Contains-cons_cases, Contains-map, Contains-from_map, SameElements-trans}
+use Rattle.nquads.proofs.ReadingElements.{All-from_contains, AllDiffer-head, AllDiffer-tail, AllDiffer-map}
 use Rattle.nquads.proofs.ReadingLines.{statement_from_renamed}
 use Rattle.nquads.proofs.ReadingBlanks.{chosen, same_blank-true, same_blank-false, rename-rename, rename-itself, rename-agree, blanks_of-rename, distinct, distinct_keeps, from_distinct, AllDiffer-distinct, Stands, to_blanks_in, from_blanks_in}
 
@@ -27,11 +28,11 @@ along_to h (b ∷ bs) = ap (λ (z : List Blank). h b ∷ z) (along_to h bs)
 
 along_applied : (h : Blank → Blank) (bs : List Blank) (b : Blank) → Contains bs b → applied (along h bs) b ≡ h b
 unfolding along
-along_applied h [] b m = absurd (none_in_nil b m)
+along_applied h [] b m = absurd (Contains-nil b m)
 along_applied h (c ∷ cs) b m =
     chosen (same_blank c b) (h c) (applied (along h cs) b) (h b)
     (λ e. ap h (same_blank-true c b e))
-    (λ e. along_applied h cs b (elim (head_or_tail c cs b m) [ inl k ↦ absurd (same_blank-false c b e k) | inr n ↦ n ]))
+    (λ e. along_applied h cs b (elim (Contains-cons_cases c cs b m) [ inl k ↦ absurd (same_blank-false c b e k) | inr n ↦ n ]))
 
 -- no two blank nodes of the dataset are sent to one
 abbrev pub OneToOneOn : (Blank → Blank) → List Statement → Type 0
@@ -39,7 +40,7 @@ OneToOneOn h q = (a b : Blank) → Stands q a → Stands q b → h a ≡ h b →
 
 same_maps : (f g : Blank → Blank) (q : List Statement) → ((b : Blank) → Stands q b → f b ≡ g b) → (t : Statement) → Contains (map (rename f) q) t → Contains (map (rename g) q) t
 same_maps f g q p t m =
-    let r = from_map (rename f) q t m in
+    let r = Contains-from_map (rename f) q t m in
     let same : rename g r.0 ≡ t = rename-agree g f r.0 (λ b n. sym (p b (record { statement = r.0; within = r.1; blank_node = n }))) ∙ r.2 in
     subst (λ (z : Statement). Contains (map (rename g) q) z) same (Contains-map (rename g) q r.0 r.1)
 
@@ -66,14 +67,14 @@ Same-from_map h q r o e =
 -- ---- what a renaming does, and how it is undone
 
 applied_at : (r : List Pair) (p : Pair) → AllDiffer (map (λ (x : Pair). x.from) r) → Contains r p → applied r p.from ≡ p.to
-applied_at [] p a m = absurd (none_in_nil p m)
+applied_at [] p a m = absurd (Contains-nil p m)
 applied_at (x ∷ xs) p a m =
     chosen (same_blank x.from p.from) x.to (applied xs p.from) p.to
-    (λ e. elim (head_or_tail x xs p m) [
+    (λ e. elim (Contains-cons_cases x xs p m) [
       | inl k ↦ ap (λ (z : Pair). z.to) k
       | inr n ↦ absurd (AllDiffer-head x.from (map (λ (z : Pair). z.from) xs) a (subst (λ (z : Blank). Contains (map (λ (y : Pair). y.from) xs) z) (sym (same_blank-true x.from p.from e)) (Contains-map (λ (z : Pair). z.from) xs p n)))
     ])
-    (λ e. elim (head_or_tail x xs p m) [
+    (λ e. elim (Contains-cons_cases x xs p m) [
       | inl k ↦ absurd (same_blank-false x.from p.from e (ap (λ (z : Pair). z.from) k))
       | inr n ↦ applied_at xs p (AllDiffer-tail x.from (map (λ (z : Pair). z.from) xs) a) n
     ])
@@ -92,18 +93,18 @@ back_from (p ∷ ps) = ap (λ (z : List Blank). p.to ∷ z) (back_from ps)
 
 back-contains : (r : List Pair) (p : Pair) → Contains r p → Contains (back r) (swapped p)
 unfolding back
-back-contains [] p m = absurd (none_in_nil p m)
+back-contains [] p m = absurd (Contains-nil p m)
 back-contains (x ∷ xs) p m =
-    elim (head_or_tail x xs p m) [
-      | inl e ↦ subst (λ (z : Pair). Contains (swapped x ∷ back xs) z) (ap swapped e) (here (swapped x) (back xs))
-      | inr n ↦ there (swapped x) (back xs) (swapped p) (back-contains xs p n)
+    elim (Contains-cons_cases x xs p m) [
+      | inl e ↦ subst (λ (z : Pair). Contains (swapped x ∷ back xs) z) (ap swapped e) (Contains-here (swapped x) (back xs))
+      | inr n ↦ Contains-there (swapped x) (back xs) (swapped p) (back-contains xs p n)
     ]
 
 -- the renaming backwards undoes it
 pub applied_back : (r : List Pair) (b : Blank) → IsRenaming r → Contains (map (λ (p : Pair). p.from) r) b → applied (back r) (applied r b) ≡ b
 unfolding swapped
 applied_back r b i m =
-    let found = from_map (λ (p : Pair). p.from) r b m in
+    let found = Contains-from_map (λ (p : Pair). p.from) r b m in
     let p = found.0 in
     let to : applied r b ≡ p.to = ap (applied r) (sym found.2) ∙ applied_at r p i.sources found.1 in
     let undone : applied (back r) p.to ≡ p.from = applied_at (back r) (swapped p) (subst (λ (z : List Blank). AllDiffer z) (sym (back_from r)) i.targets) (back-contains r p found.1) in
@@ -123,9 +124,9 @@ Same-one_to_one q r e a b s t k = sym (undone_at q r e a s) ∙ ap (applied (bac
 -- each blank node of the renamed dataset comes from one
 came_from : (h : Blank → Blank) (q r : List Statement) → SameElements (map (rename h) q) r → (c : Blank) → Stands r c → (b : Blank) × Stands q b × (h b ≡ c)
 came_from h q r e c s =
-    let found = from_map (rename h) q s.statement ((e s.statement).1 s.within) in
+    let found = Contains-from_map (rename h) q s.statement ((e s.statement).1 s.within) in
     let among : Contains (map h (blanks_of found.0)) c = subst (λ (z : List Blank). Contains z c) (blanks_of-rename h found.0) (subst (λ (z : Statement). Contains (blanks_of z) c) (sym found.2) s.blank_node) in
-    let origin = from_map h (blanks_of found.0) c among in
+    let origin = Contains-from_map h (blanks_of found.0) c among in
     (origin.0, record { statement = found.0; within = found.1; blank_node = origin.1 }, origin.2)
 
 -- ---- an equivalence
@@ -136,7 +137,7 @@ Same-from_elements q r e =
     (SameElements-trans (map (rename (λ b. b)) q) q r (λ t. (to t, fro t)) e)
   where
     to : (t : Statement) → Contains (map (rename (λ b. b)) q) t → Contains q t
-    to t m = let found = from_map (rename (λ b. b)) q t m in subst (λ (z : Statement). Contains q z) (sym (rename-itself found.0) ∙ found.2) found.1
+    to t m = let found = Contains-from_map (rename (λ b. b)) q t m in subst (λ (z : Statement). Contains q z) (sym (rename-itself found.0) ∙ found.2) found.1
 
     fro : (t : Statement) → Contains q t → Contains (map (rename (λ b. b)) q) t
     fro t m = subst (λ (z : Statement). Contains (map (rename (λ b. b)) q) z) (rename-itself t) (Contains-map (rename (λ b. b)) q t m)
@@ -161,8 +162,8 @@ Same-sym q r e =
 
     to : (t : Statement) → Contains (map (rename (applied (back e.pairs))) r) t → Contains q t
     to t m =
-        let found = from_map (rename (applied (back e.pairs))) r t m in
-        let origin = from_map (rename (applied e.pairs)) q found.0 ((e.renamed found.0).1 found.1) in
+        let found = Contains-from_map (rename (applied (back e.pairs))) r t m in
+        let origin = Contains-from_map (rename (applied e.pairs)) q found.0 ((e.renamed found.0).1 found.1) in
         let same : origin.0 ≡ t = sym (undone origin.0 origin.1) ∙ ap (rename (applied (back e.pairs))) origin.2 ∙ found.2 in
         subst (λ (z : Statement). Contains q z) same origin.1
 
@@ -190,15 +191,15 @@ Same-trans q r u e k =
 
     to : (t : Statement) → Contains (map (rename (λ b. applied k.pairs (applied e.pairs b))) q) t → Contains u t
     to t m =
-        let found = from_map (rename (λ b. applied k.pairs (applied e.pairs b))) q t m in
+        let found = Contains-from_map (rename (λ b. applied k.pairs (applied e.pairs b))) q t m in
         let mid : Contains r (rename (applied e.pairs) found.0) = (e.renamed (rename (applied e.pairs) found.0)).0 (Contains-map (rename (applied e.pairs)) q found.0 found.1) in
         let last : Contains u (rename (applied k.pairs) (rename (applied e.pairs) found.0)) = (k.renamed (rename (applied k.pairs) (rename (applied e.pairs) found.0))).0 (Contains-map (rename (applied k.pairs)) r (rename (applied e.pairs) found.0) mid) in
         subst (λ (z : Statement). Contains u z) (twice found.0 ∙ found.2) last
 
     fro : (t : Statement) → Contains u t → Contains (map (rename (λ b. applied k.pairs (applied e.pairs b))) q) t
     fro t m =
-        let second = from_map (rename (applied k.pairs)) r t ((k.renamed t).1 m) in
-        let first = from_map (rename (applied e.pairs)) q second.0 ((e.renamed second.0).1 second.1) in
+        let second = Contains-from_map (rename (applied k.pairs)) r t ((k.renamed t).1 m) in
+        let first = Contains-from_map (rename (applied e.pairs)) q second.0 ((e.renamed second.0).1 second.1) in
         subst (λ (z : Statement). Contains (map (rename (λ b. applied k.pairs (applied e.pairs b))) q) z) (sym (twice first.0) ∙ ap (rename (applied k.pairs)) first.2 ∙ second.2)
         (Contains-map (rename (λ b. applied k.pairs (applied e.pairs b))) q first.0 first.1)
 
@@ -243,5 +244,5 @@ IsDataset-rename h q o d =
 pub IsStatement-from_Same : (q r : List Statement) → Same q r → All IsStatement q → All IsStatement r
 IsStatement-from_Same q r e i =
     All-from_contains IsStatement r
-    (λ t m. let found = from_map (rename (applied e.pairs)) q t ((e.renamed t).1 m) in
+    (λ t m. let found = Contains-from_map (rename (applied e.pairs)) q t ((e.renamed t).1 m) in
     subst IsStatement found.2 (IsStatement-rename (applied e.pairs) found.0 (All-contains IsStatement q found.0 i found.1)))

@@ -4,14 +4,14 @@ use Rattle.base_types.specs.Sets.{SameElements}
 use Rattle.nquads.specs.Terms.{Blank, Term, iri, literal, blank, Statement, IsStatement}
 use Rattle.nquads.specs.Renaming.{rename_term, rename, applied, Same}
 use Rattle.nquads.specs.Lines.{labelled, HasLabels, canonical_text, LabelsDiffer}
-use Rattle.nquads.proofs.ReadingElements.{Contains-map, from_map}
+use Rattle.base_types.proofs.Lists.{Contains-map, Contains-from_map}
 use Rattle.nquads.proofs.ReadingTerms.{named}
 use Rattle.nquads.proofs.ReadingDatasets.{text_determines_statements}
 use Rattle.std.specs.List.{concat}
 use Rattle.nquads.specs.Lines.{term_text, graph_text, line}
 use Rattle.nquads.specs.Spelling.{iri_text}
 use Rattle.nquads.proofs.ReadingBlanks.{to_blanks_in}
-use Rattle.nquads.proofs.ReadingOrder.{rising_of_set}
+use Rattle.base_types.proofs.Rising.{rising-free}
 use Rattle.nquads.proofs.ReadingRenamings.{Same-from_map, Same-from_elements, Same-sym, Same-trans}
 
 -- ---- equal canonical texts
@@ -55,18 +55,18 @@ carried f h q r e l = (to, fro)
   where
     to : Contains (map (line (λ b. f (h b))) q) l → Contains (map (line f) r) l
     to m =
-        let found = from_map (line (λ b. f (h b))) q l m in
+        let found = Contains-from_map (line (λ b. f (h b))) q l m in
         let kept : Contains r (rename h found.0) = (e (rename h found.0)).0 (Contains-map (rename h) q found.0 found.1) in
         subst (λ (z : List ℕ). Contains (map (line f) r) z) (line-rename f h found.0 ∙ found.2) (Contains-map (line f) r (rename h found.0) kept)
 
     fro : Contains (map (line f) r) l → Contains (map (line (λ b. f (h b))) q) l
     fro m =
-        let found = from_map (line f) r l m in
-        let origin = from_map (rename h) q found.0 ((e found.0).1 found.1) in
+        let found = Contains-from_map (line f) r l m in
+        let origin = Contains-from_map (rename h) q found.0 ((e found.0).1 found.1) in
         subst (λ (z : List ℕ). Contains (map (line (λ b. f (h b))) q) z) (sym (line-rename f h origin.0) ∙ ap (line f) origin.2 ∙ found.2) (Contains-map (line (λ b. f (h b))) q origin.0 origin.1)
 
 pub text_carried : (f : Blank → List ℕ) (h : Blank → Blank) (q r : List Statement) → SameElements (map (rename h) q) r → canonical_text (λ b. f (h b)) q ≡ canonical_text f r
-text_carried f h q r e = ap concat (rising_of_set (map (line (λ b. f (h b))) q) (map (line f) r) (carried f h q r e))
+text_carried f h q r e = ap concat (rising-free (map (line (λ b. f (h b))) q) (map (line f) r) (carried f h q r e))
 
 pub text_from_Same : (f : Blank → List ℕ) (q r : List Statement) (e : Same q r) → canonical_text f r ≡ canonical_text (λ b. f (applied e.pairs b)) q
 text_from_Same f q r e = sym (text_carried f (applied e.pairs) q r e.renamed)

@@ -4,7 +4,7 @@ use Rattle.std.proofs.lemmas.Bool.{false≢true}
 use Rattle.std.proofs.lemmas.Slice.Eq.{bytes_eq-Decides}
 use Rattle.std.proofs.lemmas.List.Elements.{All-head, All-tail}
 use Rattle.std.specs.List.{flat_map}
-use Rattle.nquads.specs.Terms.{BlankKind, by_label, by_node, by_graph, by_cell, Blank, Term, iri, literal, blank, Statement, IsIri, IsLanguage, IsLabel, IsTerm, IsResource, IsStatement, is_forbidden, is_letter, is_digit, is_label_character, xsd_string}
+use Rattle.nquads.specs.Terms.{BlankKind, by_label, by_node, by_graph, by_cell, Blank, Term, iri, literal, blank, Statement, HasIriCharacters, IsLanguage, IsLabel, IsTerm, IsResource, IsStatement, is_forbidden, is_letter, is_digit, is_label_character, xsd_string}
 use Rattle.nquads.specs.Renaming.{blanks_of_term, rename_term}
 use Rattle.nquads.specs.Spelling.{escape, iri_text, literal_end, literal_text, kind_letter, blank_text, spelling, spelled}
 use Rattle.nquads.specs.Lines.{term_text}
@@ -14,7 +14,7 @@ use Rattle.nquads.proofs.ReadingEscapes.{quoted_one_reading}
 
 -- ---- bytes that a part does not hold
 
-pub iri_absent : (c : ℕ) (text : List ℕ) → is_forbidden c ≡ true → IsIri text → Absent c text
+pub iri_absent : (c : ℕ) (text : List ℕ) → is_forbidden c ≡ true → HasIriCharacters text → Absent c text
 iri_absent c text f i = Absent-tested is_forbidden false c text (λ e. true≢false (sym f ∙ e)) i
 
 pub label_absent : (c : ℕ) (text : List ℕ) → is_label_character c ≡ false → IsLabel text → Absent c text
@@ -41,7 +41,7 @@ abbrev tail : List ℕ → List ℕ
 tail [] = []
 tail (x ∷ xs) = xs
 
-pub iri_then : (x y r u : List ℕ) → IsIri x → IsIri y → iri_text x ++ 32 ∷ r ≡ iri_text y ++ 32 ∷ u → (x ≡ y) × (r ≡ u)
+pub iri_then : (x y r u : List ℕ) → HasIriCharacters x → HasIriCharacters y → iri_text x ++ 32 ∷ r ≡ iri_text y ++ 32 ∷ u → (x ≡ y) × (r ≡ u)
 iri_then x y r u i j e =
     let tails : (x ++ 62 ∷ []) ++ 32 ∷ r ≡ (y ++ 62 ∷ []) ++ 32 ∷ u = cc in
     let whole : x ++ 62 ∷ 32 ∷ r ≡ y ++ 62 ∷ 32 ∷ u = sym (append_assoc x (62 ∷ []) (32 ∷ r)) ∙ tails ∙ append_assoc y (62 ∷ []) (32 ∷ u) in
@@ -49,7 +49,7 @@ iri_then x y r u i j e =
     let last : 32 ∷ r ≡ 32 ∷ u = parts.1 in
     (parts.0, cc)
 
-untagged_then : (a b : Bool) (x y r u : List ℕ) → IsIri x → IsIri y → (a ≡ true → b ≡ true → x ≡ y) → (if a then [] else 94 ∷ 94 ∷ iri_text x) ++ 32 ∷ r ≡ (if b then [] else 94 ∷ 94 ∷ iri_text y) ++ 32 ∷ u → (x ≡ y) × (r ≡ u)
+untagged_then : (a b : Bool) (x y r u : List ℕ) → HasIriCharacters x → HasIriCharacters y → (a ≡ true → b ≡ true → x ≡ y) → (if a then [] else 94 ∷ 94 ∷ iri_text x) ++ 32 ∷ r ≡ (if b then [] else 94 ∷ 94 ∷ iri_text y) ++ 32 ∷ u → (x ≡ y) × (r ≡ u)
 untagged_then true true x y r u i j p e = (p refl refl, ap tail e)
 untagged_then true false x y r u i j p e = absurd (apart 32 94 _ _ refl e)
 untagged_then false true x y r u i j p e = absurd (apart 94 32 _ _ refl e)

@@ -11,7 +11,8 @@ abbrev pub hex_digit : ℕ → ℕ
 hex_digit n = if nat_lt n 10 then 48 + n else 55 + n
 
 -- A byte of a literal's text: \b \t \n \f \r \" \\, \u00XX for the other controls and for U+007F, and
--- itself otherwise.
+-- itself otherwise. (The canonical form escapes U+FFFE and U+FFFF too; texts that hold them are refused
+-- before they come here.)
 abbrev pub escape : ℕ → List ℕ
 escape c =
     if c == 8 then 92 ∷ 98 ∷ []

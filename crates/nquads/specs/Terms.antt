@@ -53,9 +53,9 @@ is_digit c = nat_le 48 c && nat_le c 57
 abbrev pub is_forbidden : ℕ → Bool
 is_forbidden c = nat_le c 32 || (c == 60) || (c == 62) || (c == 34) || (c == 123) || (c == 125) || (c == 124) || (c == 92) || (c == 94) || (c == 96)
 
--- the text holds no byte that is forbidden in an IRI
-abbrev pub IsIri : List ℕ → Type 0
-IsIri text = All (λ c. is_forbidden c ≡ false) text
+-- The text holds no byte that is forbidden in an IRI. That it is absolute is asked where IRIs are read.
+abbrev pub HasIriCharacters : List ℕ → Type 0
+HasIriCharacters text = All (λ c. is_forbidden c ≡ false) text
 
 -- letters, then groups of `-` and letters or digits. -- RDF 1.1 N-Quads, 4, LANGTAG
 pub record IsLanguage (text : List ℕ) : Type 0 where
@@ -79,19 +79,19 @@ pub record IsLabel (text : List ℕ) : Type 0 where
 -- A term whose IRIs are written with admitted characters, and whose datatype is rdf:langString exactly
 -- where there is a language. -- RDF 1.1 Concepts, 3.2 and 3.3
 abbrev pub IsTerm : Term → Type 0
-IsTerm (iri text) = IsIri text
-IsTerm (literal text datatype language) = IsIri datatype × MatchOption language (datatype ≢ rdf_lang_string) (λ tag. (datatype ≡ rdf_lang_string) × IsLanguage tag)
+IsTerm (iri text) = HasIriCharacters text
+IsTerm (literal text datatype language) = HasIriCharacters datatype × MatchOption language (datatype ≢ rdf_lang_string) (λ tag. (datatype ≡ rdf_lang_string) × IsLanguage tag)
 IsTerm (blank b) = Unit {0}
 
 -- an IRI or a blank node
 abbrev pub IsResource : Term → Type 0
-IsResource (iri text) = IsIri text
+IsResource (iri text) = HasIriCharacters text
 IsResource (literal text datatype language) = ⊥
 IsResource (blank b) = Unit {0}
 
 -- Subject and graph are resources, the predicate is an IRI. -- RDF 1.1 Concepts, 3.1
 pub record IsStatement (s : Statement) : Type 0 where
   pub subject : IsResource s.subject
-  pub predicate : IsIri s.predicate
+  pub predicate : HasIriCharacters s.predicate
   pub object : IsTerm s.object
   pub graph : IfSome s.graph IsResource
