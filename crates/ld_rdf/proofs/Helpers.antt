@@ -1,0 +1,83 @@
+-- Options, tests and lists, as the proofs on flat requests use them.
+use Rattle.std.proofs.Common.{◌≡◌, ◌≢◌, ℕ, ◌<◌, Bool, true, false, not, ◌&&◌, List, [], ◌∷◌, map, length, get_or, inl, inr, Contains, All, Option, Some, None, option_map, option_and_then, refl, sym, ap, ◌∙◌, subst, arith}
+use Rattle.std.specs.List.{list_all}
+use Rattle.std.specs.Option.{option_map_or}
+use Rattle.std.specs.Str.{bytes_eq}
+use Rattle.std.proofs.Math.ListN.{get_or-map}
+use Rattle.std.proofs.lemmas.List.{length-map}
+use Rattle.std.proofs.lemmas.Slice.Eq.{bytes_eq-Decides}
+use Rattle.base_types.specs.Sets.{AllDiffer}
+use Rattle.base_types.proofs.Lists.{Contains-here, Contains-there, Contains-cons_cases, Contains-nil, Contains-from_map}
+use Rattle.ld_rdf.specs.Parts.{provided}
+
+-- ---- options
+
+pub and_then-Some : {A B : Type 0} (f : A → Option B) (o : Option A) (y : B) → option_and_then f o ≡ Some y → (x : A) × (o ≡ Some x) × (f x ≡ Some y)
+and_then-Some f None y h = absurd (cc)
+and_then-Some f (Some x) y h = (x, refl, h)
+
+pub option_map-Some : {A B : Type 0} (f : A → B) (o : Option A) (y : B) → option_map f o ≡ Some y → (x : A) × (o ≡ Some x) × (f x ≡ y)
+option_map-Some f None y h = absurd (cc)
+option_map-Some f (Some x) y h = (x, refl, cc)
+
+pub option_map-None : {A B : Type 0} (f : A → B) (o : Option A) → option_map f o ≡ None → o ≡ None
+option_map-None f None h = refl
+option_map-None f (Some x) h = absurd (cc)
+
+pub provided-Some : {A : Type 0} (b : Bool) (o : Option A) (y : A) → provided b o ≡ Some y → (b ≡ true) × (o ≡ Some y)
+provided-Some true o y h = (refl, h)
+provided-Some false o y h = absurd (cc)
+
+pub map_or-true : {A : Type 0} (p : A → Bool) (o : Option A) → option_map_or p o false ≡ true → (x : A) × (o ≡ Some x) × (p x ≡ true)
+map_or-true p None h = absurd (cc)
+map_or-true p (Some x) h = (x, refl, h)
+
+pub same_value : {A : Type 0} (o : Option A) (x y : A) → o ≡ Some x → o ≡ Some y → x ≡ y
+same_value o x y p q = cc
+
+-- ---- tests
+
+pub and_left : (a b : Bool) → (a && b) ≡ true → a ≡ true
+and_left true b h = refl
+and_left false b h = absurd (cc)
+
+pub and_right : (a b : Bool) → (a && b) ≡ true → b ≡ true
+and_right true b h = h
+and_right false b h = absurd (cc)
+
+pub not_true : (b : Bool) → not b ≡ true → b ≡ false
+not_true true h = absurd (cc)
+not_true false h = refl
+
+pub same_text : (a b : List ℕ) → bytes_eq a b ≡ true → a ≡ b
+same_text a b h = (bytes_eq-Decides a b).0 h
+
+pub equal_text : (a b : List ℕ) → a ≡ b → bytes_eq a b ≡ true
+equal_text a b e = (bytes_eq-Decides a b).1 e
+
+-- ---- lists
+
+pub list_all-contains : {X : Type 0} (p : X → Bool) (xs : List X) (x : X) → list_all p xs ≡ true → Contains xs x → p x ≡ true
+list_all-contains p [] x h c = absurd (Contains-nil x c)
+list_all-contains p (y ∷ ys) x h c = elim (Contains-cons_cases y ys x c) [
+  | inl e ↦ ap p (sym e) ∙ and_left (p y) _ h
+  | inr d ↦ list_all-contains p ys x (and_right (p y) _ h) d
+]
+
+pub list_all-from : {X : Type 0} (p : X → Bool) (xs : List X) → ((x : X) → Contains xs x → p x ≡ true) → list_all p xs ≡ true
+list_all-from p [] h = refl
+list_all-from p (x ∷ xs) h = rw (h x (Contains-here x xs)) (list_all-from p xs (λ y c. h y (Contains-there x xs y c)))
+
+-- a list whose images differ has no repeats
+pub AllDiffer-images : {X Y : Type 0} (f : X → Y) (xs : List X) → AllDiffer (map f xs) → AllDiffer xs
+AllDiffer-images f xs differ i j d below within same =
+    let long : length (map f xs) ≡ length xs = length-map xs f in
+    differ i j (f d) below (omega arith) (get_or-map f xs i d ∙ ap f same ∙ sym (get_or-map f xs j d))
+
+-- a list of images, each of an element of xs, is the images of a list of such elements
+pub picked : {X Y : Type 0} (f : X → Y) (xs : List X) (ys : List Y) → ((y : Y) → Contains ys y → Contains (map f xs) y) → (zs : List X) × (ys ≡ map f zs) × ((z : X) → Contains zs z → Contains xs z)
+picked f xs [] h = ([], refl, λ z c. absurd (Contains-nil z c))
+picked f xs (y ∷ ys) h =
+    let first = Contains-from_map f xs y (h y (Contains-here y ys)) in
+    let later = picked f xs ys (λ z c. h z (Contains-there y ys z c)) in
+    (first.0 ∷ later.0, (λ i. sym first.2 i ∷ later.1 i), λ z c. elim (Contains-cons_cases first.0 later.0 z c) [ inl e ↦ subst (Contains xs) e first.1 | inr d ↦ later.2 z d ])

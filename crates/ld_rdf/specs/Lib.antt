@@ -1,0 +1,4 @@
+pub mod Plain
+pub mod Flat
+pub mod Parts
+pub mod Answers

@@ -1,0 +1,82 @@
+-- The parts of a flat request as its members give them, for the functions that take it apart.
+use Rattle.std.specs.Prelude.{◌≡◌, ℕ, List, [], ◌∷◌, Bool, true, false, ◌&&◌, ◌||◌, not, map, Option, Some, None, option_map, option_and_then, if◌then◌else◌, codes, Result, Ok, Err}
+use Rattle.std.specs.List.{list_all}
+use Rattle.std.specs.Option.{option_map_or}
+use Rattle.std.specs.Str.{bytes_eq}
+use Rattle.json_tree.specs.declared.tree.Tree.{Tree}
+use Rattle.json_tree.specs.declared.tree.Member.{Member}
+use Rattle.json_tree.specs.Places.{text_of, members_of, value_of}
+use Rattle.nquads.specs.Terms.{Statement}
+use Rattle.ld_rdf.specs.Plain.{is_plain_iri, is_plain_term, has_noncharacter}
+use Rattle.ld_rdf.specs.Flat.{at_context, at_id, property_statement}
+
+-- the option where the test holds
+abbrev pub provided : {A : Type 0} → Bool → Option A → Option A
+provided true o = o
+provided false o = None
+
+-- the text of the member of that name
+abbrev pub text_at : List ℕ → List (Member Tree) → Option (List ℕ)
+text_at key members = option_and_then text_of (value_of key members)
+
+-- the member of an object that has no other
+abbrev pub only_in : List (Member Tree) → Option (Member Tree)
+only_in [] = None
+only_in (m ∷ []) = Some m
+only_in (m ∷ n ∷ ms) = None
+
+abbrev pub only_of : Tree → Option (Member Tree)
+only_of t = option_and_then only_in (members_of t)
+
+-- `contexts` and `document`
+abbrev pub two_in : List (Member Tree) → Option (Tree × Tree)
+two_in [] = None
+two_in (m ∷ []) = None
+two_in (c ∷ d ∷ []) = provided (bytes_eq c.key (codes "contexts") && bytes_eq d.key (codes "document")) (Some (c.value, d.value))
+two_in (c ∷ d ∷ m ∷ ms) = None
+
+-- the value of the lone member `@context`
+abbrev pub unwrapped : Tree → Option Tree
+unwrapped t = option_and_then (λ m. provided (bytes_eq m.key at_context) (Some m.value)) (only_of t)
+
+-- a name with terms: the supplied context
+abbrev pub Supplied : Type 0
+Supplied = List ℕ × List (Member Tree)
+
+abbrev pub supplied_in : Tree → Option Supplied
+supplied_in t = option_and_then (λ m. option_map (λ terms. (m.key, terms)) (option_and_then members_of (unwrapped m.value))) (only_of t)
+
+-- whether a member is a plain term with a plain IRI
+abbrev pub is_definition : Member Tree → Bool
+is_definition m = is_plain_term m.key && option_map_or is_plain_iri (text_of m.value) false
+
+-- a term's IRI and the text, where the member is a term of the context with a text that can be carried
+abbrev pub property_of : List (Member Tree) → Member Tree → Option (List ℕ × List ℕ)
+property_of terms m = option_and_then (λ mapping. option_and_then (λ text. provided (not (has_noncharacter text)) (Some (mapping, text))) (text_of m.value)) (text_at m.key terms)
+
+-- `@id` and `@context`, which are no properties
+abbrev pub is_entry : List ℕ → Bool
+is_entry key = bytes_eq key at_id || bytes_eq key at_context
+
+-- the statements of a document's members, in their order
+abbrev pub statements_in : List (Member Tree) → List ℕ → List (Member Tree) → Option (List Statement)
+statements_in terms id [] = Some []
+statements_in terms id (m ∷ ms) =
+    if is_entry m.key then statements_in terms id ms
+    else option_and_then (λ p. option_map (λ more. property_statement id p.0 p.1 ∷ more) (statements_in terms id ms)) (property_of terms m)
+
+-- whether a document with these entries can take the context of that name, and its terms are definitions
+abbrev pub agrees : List ℕ → List ℕ → List ℕ → List (Member Tree) → Bool
+agrees name chosen id terms = is_plain_iri id && bytes_eq name chosen && list_all is_definition terms
+
+-- the statements of a document under the supplied context
+abbrev pub described : Supplied → List (Member Tree) → Option (List Statement)
+described context members =
+    option_and_then (λ id. option_and_then (λ chosen. provided (agrees context.0 chosen id context.1) (statements_in context.1 id members)) (text_at at_context members))
+    (text_at at_id members)
+
+-- the statements of a flat request, and nothing for another
+abbrev pub flat_statements : Tree → Option (List Statement)
+flat_statements r =
+    option_and_then (λ two. option_and_then (λ context. option_and_then (described context) (members_of two.1)) (supplied_in two.0))
+    (option_and_then two_in (members_of r))

@@ -1,0 +1,144 @@
+ghost use Rattle.std.specs.Prelude.{◌≡◌, true, List, map, option_map, IfOk, IsErrOf};
+ghost use Rattle.json_tree.specs.Trees.{is_lawful, AreLawful};
+ghost use Rattle.nquads.specs.Terms.{Statement, IsStatement};
+ghost use Rattle.nquads.specs.Spelling.{spelled};
+ghost use Rattle.ld_rdf.specs.Flat.{IsFlat, IsFlatMeaning, Means, property_statement};
+ghost use Rattle.ld_rdf.specs.Parts.{property_of, is_entry, agrees, statements_in, described, flat_statements};
+ghost use Rattle.ld_rdf.specs.Answers.{Answers, AnswersItems};
+
+use crate::fault::FlatFault;
+use crate::parts::{are_definitions, supplied, text_at, two_members};
+use crate::plain::{has_noncharacter, is_plain_iri};
+use base_types::Text;
+use json_tree::{Member, Tree};
+use nquads::{TextQuad, TextQuads, iri, literal};
+use std::alloc::Global;
+
+/// The datatype of a text.
+const XSD_STRING: &str = "http://www.w3.org/2001/XMLSchema#string";
+
+/// The statement of one member of the document.
+fn property(
+    alloc: Global,
+    terms: &[Member],
+    id: &Text,
+    member: &Member,
+) -> Result<TextQuad, FlatFault>
+    requires { AreLawful terms.now }
+    ensures { Answers
+        (option_map (λ p. spelled (property_statement id.now p.0 p.1)) (property_of terms.now member.now))
+        result }
+{
+    let Some(mapping) = text_at(member.key.as_str(), terms) else {
+        return Err(FlatFault::NotBuilt);
+    };
+    let Some(text) = member.value.as_text() else {
+        return Err(FlatFault::NotBuilt);
+    };
+    if has_noncharacter(text.as_str()) {
+        return Err(FlatFault::NotBuilt);
+    }
+    Ok(TextQuad {
+        subject: iri(alloc, id.as_str())?,
+        predicate: iri(alloc, mapping.as_str())?,
+        object: literal(alloc, text.as_str(), XSD_STRING, None)?,
+        graph: None,
+    })
+}
+
+/// Whether the member is `@id` or `@context`, which are no properties.
+fn is_entry(key: &str) -> bool
+    ensures { result ≡ is_entry key.now }
+{
+    key == "@id" || key == "@context"
+}
+
+/// The statements of the document's members, in their order.
+#[tactic(auto, using(crate::proofs::Turns::turns))]
+fn properties(
+    alloc: Global,
+    terms: &[Member],
+    id: &Text,
+    members: &[Member],
+) -> Result<Vec<TextQuad>, FlatFault>
+    requires { AreLawful terms.now }
+    ensures { AnswersItems
+        (option_map (map spelled) (statements_in terms.now id.now members.now)) result }
+{
+    let mut quads = Vec::new(alloc);
+    for member in members {
+        if !is_entry(member.key.as_str()) {
+            let quad = property(alloc, terms, id, member)?;
+            quads.push(quad)?;
+        }
+    }
+    Ok(quads)
+}
+
+/// Whether a document with these entries can take the context of that name.
+fn agrees(name: &Text, chosen: &Text, id: &Text, terms: &[Member]) -> bool
+    ensures { result ≡ agrees name.now chosen.now id.now terms.now }
+{
+    is_plain_iri(id.as_str()) && name == chosen && are_definitions(terms)
+}
+
+/// The statements of a document under the supplied context.
+fn described(
+    alloc: Global,
+    name: &Text,
+    terms: &[Member],
+    members: &[Member],
+) -> Result<Vec<TextQuad>, FlatFault>
+    requires terms { AreLawful terms.now }
+    requires members { AreLawful members.now }
+    ensures { AnswersItems
+        (option_map (map spelled) (described (name.now, terms.now) members.now)) result }
+{
+    let Some(id) = text_at("@id", members) else {
+        return Err(FlatFault::NotBuilt);
+    };
+    let Some(chosen) = text_at("@context", members) else {
+        return Err(FlatFault::NotBuilt);
+    };
+    if !agrees(name, chosen, id, terms) {
+        return Err(FlatFault::NotBuilt);
+    }
+    properties(alloc, terms, id, members)
+}
+
+/// The statements of a flat request.
+fn flat_statements(alloc: Global, request: &Tree) -> Result<Vec<TextQuad>, FlatFault>
+    requires { is_lawful request.now ≡ true }
+    ensures { AnswersItems (option_map (map spelled) (flat_statements request.now)) result }
+{
+    let Some((contexts, document)) = two_members(request) else {
+        return Err(FlatFault::NotBuilt);
+    };
+    let Some((name, terms)) = supplied(contexts) else {
+        return Err(FlatFault::NotBuilt);
+    };
+    let Some(members) = document.as_object() else {
+        return Err(FlatFault::NotBuilt);
+    };
+    described(alloc, name, terms, members)
+}
+
+/// The statements of a flat request: one for each member of the document beside `@id` and `@context`,
+/// from the `@id`, by the IRI to which the supplied context maps the member's name, to its text as
+/// xsd:string, in the default graph.
+///
+/// # Errors
+///
+/// `NotBuilt` exactly where the request is not flat.
+pub fn flat(alloc: Global, request: &Tree) -> Result<TextQuads, FlatFault>
+    requires { is_lawful request.now ≡ true }
+    ensures ok { IfOk result (λ quads. IsFlat request.now × ((q : List Statement)
+        × IsFlatMeaning request.now q × (quads ≡ map spelled q))) }
+    ensures statements { IfOk result (λ _. (s : Statement) → Means request.now s → IsStatement s) }
+    ensures not_built { IsErrOf result FlatFault.NotBuilt → IsFlat request.now → ⊥ }
+{
+    match flat_statements(alloc, request) {
+        Ok(quads) => Ok(TextQuads::from_vec(quads)),
+        Err(fault) => Err(fault),
+    }
+}
