@@ -9,7 +9,7 @@ use Rattle.base_types.specs.Sets.{SameElements, AllDiffer}
 use Rattle.base_types.proofs.Lists.{Contains-map, Contains-from_map}
 use Rattle.json_tree.specs.declared.tree.Tree.{Tree}
 use Rattle.json_tree.specs.Trees.{is_lawful}
-use Rattle.nquads.specs.Terms.{iri, literal, Statement, IsIri, IsTerm, IsStatement, is_forbidden, is_letter, is_digit, xsd_string, rdf_lang_string}
+use Rattle.nquads.specs.Terms.{iri, literal, Statement, HasIriCharacters, IsTerm, IsStatement, is_forbidden, is_letter, is_digit, xsd_string, rdf_lang_string}
 use Rattle.nquads.specs.Spelling.{spelled}
 use Rattle.nquads.specs.declared.quads.TextQuad.{TextQuad}
 use Rattle.nquads.proofs.ReadingTerms.{spelled_one_reading}
@@ -25,11 +25,11 @@ use Rattle.ld_rdf.proofs.Meaning.{Description, description, is_flat, means_from,
 pub plain_character : (c : ℕ) → is_iri_character c ≡ true → is_forbidden c ≡ false
 plain_character c h = grind (arith, nat_tests)
 
-pub plain_iri_is_iri : (text : List ℕ) → IsPlainIri text → IsIri text
+pub plain_iri_is_iri : (text : List ℕ) → IsPlainIri text → HasIriCharacters text
 plain_iri_is_iri text h =
     All-weaker (λ c. is_iri_character c ≡ true) (λ c. is_forbidden c ≡ false) plain_character text (AllPass-from_list_all is_iri_character text (and_right (starts_with ◌==◌ text (codes "https://")) _ h))
 
-xsd_string_is_iri : IsIri xsd_string
+xsd_string_is_iri : HasIriCharacters xsd_string
 xsd_string_is_iri = All-weaker (λ c. not (is_forbidden c) ≡ true) (λ c. is_forbidden c ≡ false) (λ c h. not_true (is_forbidden c) h) xsd_string (AllPass-from_list_all (λ c. not (is_forbidden c)) xsd_string refl)
 
 strings_differ : xsd_string ≢ rdf_lang_string

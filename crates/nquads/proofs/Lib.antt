@@ -11,3 +11,4 @@ pub mod ReadingDatasets
 pub mod ReadingBlanks
 pub mod ReadingRenamings
 pub mod ReadingSame
+pub mod Rows

@@ -61,6 +61,14 @@ impl TextLabels {
         self.labels.get(blank)
     }
 
+    /// The blank node at a place, counted from 0, as statements name it, and its label.
+    pub fn at(&self, place: usize) -> Option<(&str, &Text)>
+        ensures { option_map (λ p. label p.0.now p.1.now) result ≡ slice_get self.now place }
+    {
+        let (blank, text) = self.labels.get_index(place)?;
+        Some((blank.as_str(), text))
+    }
+
     pub fn len(&self) -> usize
         ensures { result ≡ length self.now }
     {

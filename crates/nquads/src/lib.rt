@@ -13,6 +13,8 @@ pub mod laws;
 mod lines;
 mod quads;
 mod spelling;
+#[cfg(test)]
+mod tests;
 
 pub use base_types::{Memory, Sequence, Text};
 pub use labels::{TextLabel, TextLabels};
