@@ -18,6 +18,6 @@ mod tests;
 
 pub use base_types::{Memory, Sequence, Text};
 pub use labels::{TextLabel, TextLabels};
-pub use lines::{line_of, text_of};
+pub use lines::{line_of, names, names_all, text_of};
 pub use quads::{TextQuad, TextQuads};
 pub use spelling::{iri, literal};

@@ -1,4 +1,4 @@
-ghost use Rattle.std.specs.Prelude.{◌≡◌, List, ◌++◌, map, All, IfSome, IfOk, OnOk};
+ghost use Rattle.std.specs.Prelude.{◌≡◌, List, ◌++◌, map, All, IfSome, IfOk, OnOk, IsTrue, ◌↔◌};
 ghost use Rattle.std.specs.List.{concat};
 ghost use Rattle.base_types.specs.Sets.{SameElements};
 ghost use Rattle.nquads.specs.Terms.{Statement};
@@ -41,6 +41,31 @@ pub fn text_of(alloc: Global, quads: &TextQuads, labels: &TextLabels) -> Result<
     lines.dedup();
     let text = joined(alloc, lines.as_slice())?;
     Ok(text)
+}
+
+/// Whether `labels` name each blank node of the statement, which is what `line_of` asks.
+pub fn names(labels: &TextLabels, quad: &TextQuad) -> bool
+    ensures { IsTrue result ↔ Names labels.now quad.now }
+{
+    is_named(labels, &quad.subject)
+        && is_named(labels, &quad.object)
+        && match &quad.graph {
+            Some(graph) => is_named(labels, graph),
+            None => true,
+        }
+}
+
+/// The same of each statement of a dataset, which is what `text_of` asks.
+pub fn names_all(labels: &TextLabels, quads: &TextQuads) -> bool
+    ensures { IsTrue result ↔ All (Names labels.now) quads.now }
+{
+    quads.as_slice().iter().all(|quad| names(labels, quad))
+}
+
+fn is_named(labels: &TextLabels, part: &Text) -> bool
+    ensures { IsTrue result ↔ IsNamed labels.now part.now }
+{
+    part.as_bytes().first() != Some(&b'_') || labels.get(part.as_str()).is_some()
 }
 
 fn lines_of(alloc: Global, quads: &[TextQuad], labels: &TextLabels) -> Result<Vec<Text>, Memory>

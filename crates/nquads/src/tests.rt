@@ -1,4 +1,7 @@
-use crate::{Memory, Text, literal};
+use crate::{
+    Memory, Text, TextLabels, TextQuad, TextQuads, iri, line_of, literal, names, names_all, text_of,
+};
+use std::alloc::Global;
 
 const XSD_STRING: &str = "http://www.w3.org/2001/XMLSchema#string";
 
@@ -63,6 +66,85 @@ fn controls_are_escaped(rt: HostRuntime) -> Result<(), Memory> {
         want.push_str("\"")?;
         let got = literal(rt.alloc(), text.as_str(), XSD_STRING, None)?;
         assert_eq!(rt; got.as_str(), want.as_str(), "at {code}");
+    }
+    Ok(())
+}
+
+/// The text of the dataset below: lines in code-point order, each once.
+const TEXT: &str =
+    "<http://example.org/s> <http://example.org/p> \"1\" .\n_:c14n0 <http://example.org/p> _:c14n1 <http://example.org/g> .\n_:c14n1 <http://example.org/p> \"2\" .\n";
+
+fn copied(alloc: Global, text: &str) -> Result<Text, Memory> {
+    Text::from_str(alloc, text)
+}
+
+fn quad(
+    alloc: Global,
+    subject: &str,
+    object: &str,
+    graph: Option<&str>,
+) -> Result<TextQuad, Memory> {
+    let graph = match graph {
+        Some(graph) => Some(copied(alloc, graph)?),
+        None => None,
+    };
+    Ok(TextQuad {
+        subject: copied(alloc, subject)?,
+        predicate: iri(alloc, "http://example.org/p")?,
+        object: copied(alloc, object)?,
+        graph,
+    })
+}
+
+fn labels(alloc: Global) -> Result<TextLabels, Memory> {
+    let mut labels = TextLabels::new(alloc);
+    for (blank, text) in [("_:nx", "c14n1"), ("_:ny", "c14n0"), ("_:g/0", "c14n2")] {
+        let blank = copied(alloc, blank)?;
+        if labels.get(blank.as_str()).is_none() {
+            labels.push(blank, copied(alloc, text)?)?;
+        }
+    }
+    Ok(labels)
+}
+
+#[test]
+fn a_line_has_all_four_parts(rt: HostRuntime) -> Result<(), Memory> {
+    let labels = labels(rt.alloc())?;
+    assert_eq!(rt; labels.len(), 3);
+    let quad = quad(rt.alloc(), "_:nx", "\"é\"@fr", Some("_:g/0"))?;
+    let named = names(&labels, &quad);
+    assert!(rt; named);
+    if named {
+        let line = line_of(rt.alloc(), &quad, &labels)?;
+        assert_eq!(rt;
+            line.as_str(),
+            "_:c14n1 <http://example.org/p> \"é\"@fr _:c14n2 .\n"
+        );
+    }
+    Ok(())
+}
+
+#[test]
+fn a_text_is_sorted_without_repeats(rt: HostRuntime) -> Result<(), Memory> {
+    let alloc = rt.alloc();
+    let labels = labels(alloc)?;
+    let mut parts = Vec::new(alloc);
+    for (subject, object, graph) in [
+        ("_:nx", "\"2\"", None),
+        ("_:ny", "_:nx", Some("<http://example.org/g>")),
+        ("<http://example.org/s>", "\"1\"", None),
+        ("_:nx", "\"2\"", None),
+    ] {
+        parts.push(quad(alloc, subject, object, graph)?)?;
+    }
+    let quads = TextQuads::from_vec(parts);
+    assert_eq!(rt; quads.len(), 3);
+    assert!(rt; !quads.is_empty());
+    let named = names_all(&labels, &quads);
+    assert!(rt; named);
+    if named {
+        let text = text_of(alloc, &quads, &labels)?;
+        assert_eq!(rt; text.as_slice(), TEXT.as_bytes());
     }
     Ok(())
 }
