@@ -1,4 +1,5 @@
-ghost use Rattle.std.specs.Prelude.{◌≡◌, ℕ, List, [], ◌∷◌, ◌++◌, None, length, slice_get, OnOk, OnErr};
+ghost use Rattle.std.specs.Prelude.{◌≡◌, ℕ, List, [], ◌∷◌, ◌++◌, None, length, map, slice_get, OnOk, OnErr};
+ghost use Rattle.base_types.specs.Sets.{AllDiffer};
 ghost use Rattle.std.specs.Option.{option_copied, option_map};
 ghost use Rattle.nquads.specs.Texts.{find_label, label};
 
@@ -69,8 +70,10 @@ impl TextLabels {
         Some((blank.as_str(), text))
     }
 
+    /// The number of labels. No blank node has two.
     pub fn len(&self) -> usize
-        ensures { result ≡ length self.now }
+        ensures count { result ≡ length self.now }
+        ensures differ { AllDiffer (map (λ l. l.blank) self.now) }
     {
         self.labels.len()
     }
