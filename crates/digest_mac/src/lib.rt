@@ -1,0 +1,12 @@
+//! Digests of bytes: SHA-256 (FIPS 180-4), by the crate `sha2`.
+//!
+//! Nothing here takes memory. `sha256` of a contract is `sha2`'s definition of the standard's function
+//! on lists of bytes, so a caller can say which digest it holds.
+#![tactic(auto)]
+
+mod digest;
+
+pub use digest::sha256;
+
+#[cfg(test)]
+mod tests;
