@@ -1,0 +1,9 @@
+pub mod Steps
+pub mod Arguments
+pub mod Keys
+pub mod Found
+pub mod Again
+pub mod Writes
+pub mod Lawful
+pub mod Sorted
+pub mod Whole
