@@ -1,0 +1,127 @@
+-- No two words of a kind are spelled alike, since each is found by its spelling.
+use Rattle.std.proofs.Common.{◌≡◌, ℕ, List as ListOf, [], ◌∷◌, Bool, cond, Option, Some, None, ◌↔◌, ◌≢◌, ◌<◌, ◌+◌, true, false, length, get_or, drop, drop-cons, add-one, refl, sym, ap, ◌∙◌}
+use Rattle.std.proofs.lemmas.Slice.Eq.{bytes_eq-Decides}
+use Rattle.std.specs.Str.{bytes_eq}
+use Rattle.ld_words.specs.declared.keyword_table.LdKeyword.{LdKeyword}
+use Rattle.ld_words.specs.declared.keyword_table.LdKeyword.TheVariants.{Base, Container, Context, Direction, Graph, Id, Import, Included, Index, Json, Language, List, Nest, Absent, Prefix, Propagate, Protected, Reverse, Set, Kind, Value, Version, Vocab}
+use Rattle.ld_words.specs.declared.code_table.Code.{Code}
+use Rattle.ld_words.specs.declared.code_table.Code.TheVariants.{InvalidContextNullification, LoadingRemoteContextFailed, InvalidRemoteContext, ContextOverflow, InvalidLocalContext, InvalidVersionValue, InvalidImportValue, InvalidContextEntry, InvalidBaseIri, InvalidVocabMapping, InvalidDefaultLanguage, InvalidBaseDirection, InvalidPropagateValue, InvalidProtectedValue, CyclicIriMapping, InvalidTermDefinition, KeywordRedefinition, InvalidIriMapping, InvalidReverseProperty, InvalidKeywordAlias, InvalidPrefixValue, InvalidTypeMapping, InvalidContainerMapping, InvalidLanguageMapping, InvalidNestValue, ProtectedTermRedefinition, CollidingKeywords, InvalidIdValue, InvalidTypeValue, InvalidIndexValue, InvalidIncludedValue, InvalidReverseValue, InvalidReversePropertyMap, InvalidValueObject, InvalidReversePropertyValue, InvalidSetOrListObject, InvalidLanguageMapValue, InvalidLanguageTaggedString, InvalidTypedValue, InvalidValueObjectValue, InvalidLanguageTaggedValue, IriConfusedWithPrefix, UnmappedProperty, BlankPredicate, NotAnAbsoluteIri, StrayKeyword, LooseValue, NumberNotCarried, TextNotCarried}
+use Rattle.ld_words.specs.Spellings.{keyword_text, code_text}
+
+-- the first of the words that is spelled so
+abbrev pub found : {K : Type 0} → (K → ListOf ℕ) → ListOf K → ListOf ℕ → Option K
+found spell [] text = None
+found spell (k ∷ ks) text = cond (bytes_eq (spell k) text) (Some k) (found spell ks text)
+
+differ : {K : Type 0} (spell : K → ListOf ℕ) (ks : ListOf K) → ((k : K) → found spell ks (spell k) ≡ Some k) → (j k : K) → spell j ≡ spell k → j ≡ k
+differ spell ks back j k e = let same : Some j ≡ Some k = sym (back j) ∙ ap (found spell ks) e ∙ back k in cc
+
+abbrev pub all_keywords : ListOf LdKeyword
+all_keywords = Base ∷ Container ∷ Context ∷ Direction ∷ Graph ∷ Id ∷ Import ∷ Included ∷ Index ∷ Json ∷ Language ∷ List ∷ Nest ∷ Absent ∷ Prefix ∷ Propagate ∷ Protected ∷ Reverse ∷ Set ∷ Kind ∷ Value ∷ Version ∷ Vocab ∷ []
+
+keyword_back : (k : LdKeyword) → found keyword_text all_keywords (keyword_text k) ≡ Some k
+keyword_back Base = refl
+keyword_back Container = refl
+keyword_back Context = refl
+keyword_back Direction = refl
+keyword_back Graph = refl
+keyword_back Id = refl
+keyword_back Import = refl
+keyword_back Included = refl
+keyword_back Index = refl
+keyword_back Json = refl
+keyword_back Language = refl
+keyword_back List = refl
+keyword_back Nest = refl
+keyword_back Absent = refl
+keyword_back Prefix = refl
+keyword_back Propagate = refl
+keyword_back Protected = refl
+keyword_back Reverse = refl
+keyword_back Set = refl
+keyword_back Kind = refl
+keyword_back Value = refl
+keyword_back Version = refl
+keyword_back Vocab = refl
+
+pub keyword_text_differs : (j k : LdKeyword) → keyword_text j ≡ keyword_text k → j ≡ k
+keyword_text_differs = differ keyword_text all_keywords keyword_back
+
+abbrev pub all_codes : ListOf Code
+all_codes = InvalidContextNullification ∷ LoadingRemoteContextFailed ∷ InvalidRemoteContext ∷ ContextOverflow ∷ InvalidLocalContext ∷ InvalidVersionValue ∷ InvalidImportValue ∷ InvalidContextEntry ∷ InvalidBaseIri ∷ InvalidVocabMapping ∷ InvalidDefaultLanguage ∷ InvalidBaseDirection ∷ InvalidPropagateValue ∷ InvalidProtectedValue ∷ CyclicIriMapping ∷ InvalidTermDefinition ∷ KeywordRedefinition ∷ InvalidIriMapping ∷ InvalidReverseProperty ∷ InvalidKeywordAlias ∷ InvalidPrefixValue ∷ InvalidTypeMapping ∷ InvalidContainerMapping ∷ InvalidLanguageMapping ∷ InvalidNestValue ∷ ProtectedTermRedefinition ∷ CollidingKeywords ∷ InvalidIdValue ∷ InvalidTypeValue ∷ InvalidIndexValue ∷ InvalidIncludedValue ∷ InvalidReverseValue ∷ InvalidReversePropertyMap ∷ InvalidValueObject ∷ InvalidReversePropertyValue ∷ InvalidSetOrListObject ∷ InvalidLanguageMapValue ∷ InvalidLanguageTaggedString ∷ InvalidTypedValue ∷ InvalidValueObjectValue ∷ InvalidLanguageTaggedValue ∷ IriConfusedWithPrefix ∷ UnmappedProperty ∷ BlankPredicate ∷ NotAnAbsoluteIri ∷ StrayKeyword ∷ LooseValue ∷ NumberNotCarried ∷ TextNotCarried ∷ []
+
+code_back : (k : Code) → found code_text all_codes (code_text k) ≡ Some k
+code_back InvalidContextNullification = refl
+code_back LoadingRemoteContextFailed = refl
+code_back InvalidRemoteContext = refl
+code_back ContextOverflow = refl
+code_back InvalidLocalContext = refl
+code_back InvalidVersionValue = refl
+code_back InvalidImportValue = refl
+code_back InvalidContextEntry = refl
+code_back InvalidBaseIri = refl
+code_back InvalidVocabMapping = refl
+code_back InvalidDefaultLanguage = refl
+code_back InvalidBaseDirection = refl
+code_back InvalidPropagateValue = refl
+code_back InvalidProtectedValue = refl
+code_back CyclicIriMapping = refl
+code_back InvalidTermDefinition = refl
+code_back KeywordRedefinition = refl
+code_back InvalidIriMapping = refl
+code_back InvalidReverseProperty = refl
+code_back InvalidKeywordAlias = refl
+code_back InvalidPrefixValue = refl
+code_back InvalidTypeMapping = refl
+code_back InvalidContainerMapping = refl
+code_back InvalidLanguageMapping = refl
+code_back InvalidNestValue = refl
+code_back ProtectedTermRedefinition = refl
+code_back CollidingKeywords = refl
+code_back InvalidIdValue = refl
+code_back InvalidTypeValue = refl
+code_back InvalidIndexValue = refl
+code_back InvalidIncludedValue = refl
+code_back InvalidReverseValue = refl
+code_back InvalidReversePropertyMap = refl
+code_back InvalidValueObject = refl
+code_back InvalidReversePropertyValue = refl
+code_back InvalidSetOrListObject = refl
+code_back InvalidLanguageMapValue = refl
+code_back InvalidLanguageTaggedString = refl
+code_back InvalidTypedValue = refl
+code_back InvalidValueObjectValue = refl
+code_back InvalidLanguageTaggedValue = refl
+code_back IriConfusedWithPrefix = refl
+code_back UnmappedProperty = refl
+code_back BlankPredicate = refl
+code_back NotAnAbsoluteIri = refl
+code_back StrayKeyword = refl
+code_back LooseValue = refl
+code_back NumberNotCarried = refl
+code_back TextNotCarried = refl
+
+pub code_text_differs : (j k : Code) → code_text j ≡ code_text k → j ≡ k
+code_text_differs = differ code_text all_codes code_back
+
+-- a step of the search that misses, and one that hits
+pub found_misses : {K : Type 0} (spell : K → ListOf ℕ) (ks : ListOf K) (i : ℕ) (text : ListOf ℕ) (d : K) → i < length ks → bytes_eq (spell (get_or ks i d)) text ≡ false → found spell (drop (i + 1) ks) text ≡ found spell (drop i ks) text
+found_misses spell ks i text d h miss = rw (add-one, drop-cons ks i d) (rw miss refl)
+
+pub found_hits : {K : Type 0} (spell : K → ListOf ℕ) (ks : ListOf K) (i : ℕ) (text : ListOf ℕ) (d : K) → i < length ks → bytes_eq (spell (get_or ks i d)) text ≡ true → found spell (drop i ks) text ≡ Some (get_or ks i d)
+found_hits spell ks i text d h hit = rw (drop-cons ks i d) (rw hit refl)
+
+by_head : {K : Type 0} (spell : K → ListOf ℕ) (j : K) (ks : ListOf K) (text : ListOf ℕ) (k : K) → (found spell ks text ≡ Some k → text ≡ spell k) → (b : Bool) → bytes_eq (spell j) text ≡ b → cond b (Some j) (found spell ks text) ≡ Some k → text ≡ spell k
+by_head spell j ks text k later true t e = let same : j ≡ k = cc in rw (← same) (sym ((bytes_eq-Decides (spell j) text).0 t))
+by_head spell j ks text k later false t e = later e
+
+is_spelled : {K : Type 0} (spell : K → ListOf ℕ) (ks : ListOf K) (text : ListOf ℕ) (k : K) → found spell ks text ≡ Some k → text ≡ spell k
+is_spelled spell [] text k e = cc
+is_spelled spell (j ∷ ks) text k e = by_head spell j ks text k (is_spelled spell ks text k) (bytes_eq (spell j) text) refl e
+
+pub keyword_some : (text : ListOf ℕ) (r : Option LdKeyword) → found keyword_text all_keywords text ≡ r → (k : LdKeyword) → (r ≡ Some k) ↔ (text ≡ keyword_text k)
+keyword_some text r e k = (λ s. is_spelled keyword_text all_keywords text k (e ∙ s), λ s. sym e ∙ ap (found keyword_text all_keywords) s ∙ keyword_back k)
+
+pub keyword_none : (text : ListOf ℕ) (r : Option LdKeyword) → found keyword_text all_keywords text ≡ r → (r ≡ None) ↔ ((k : LdKeyword) → text ≢ keyword_text k)
+keyword_none text None e = (λ n k s. let other : found keyword_text all_keywords text ≡ Some k = ap (found keyword_text all_keywords) s ∙ keyword_back k in cc, λ h. refl)
+keyword_none text (Some k) e = (λ n. cc, λ h. absurd (h k (is_spelled keyword_text all_keywords text k e)))
