@@ -1,0 +1,3 @@
+pub mod Cuts
+pub mod Walk
+pub mod Lengths

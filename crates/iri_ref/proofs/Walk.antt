@@ -1,0 +1,94 @@
+-- The walk over the segments of a path, a segment at a time.
+use Rattle.std.proofs.Common.{◌≡◌, ◌≢◌, ℕ, ◌+◌, ◌-◌, ◌<◌, Bool, true, false, cond, eqb, ltb, ◌||◌, List, [], ◌∷◌, ◌++◌, length, get_or, take, map, suc, zero, refl, sym, ap, ◌∙◌, arith, rules, add-one, drop, length-append}
+use denote.Ref.{Bor}
+use Rattle.std.specs.List.{fold, join_by, flat_map}
+use Rattle.std.proofs.lemmas.Bool.{ne_eqb, lt-ltb}
+use Rattle.std.proofs.lemmas.List.{length-map, take-map, map-append}
+use Rattle.std.specs.Str.{IsUtf8}
+use Rattle.std.proofs.lemmas.Str.{IsUtf8-drop, IsCharBoundary-after_ascii}
+use Rattle.iri_ref.specs.Pieces.{shown}
+use Rattle.iri_ref.specs.Resolution.{closed, enter, is_dot, is_dot_dot, joined, segments, up}
+
+segments_at : (s later : List ℕ) → ((i : ℕ) → i < length s → get_or s i 0 ≢ 47) → segments (s ++ 47 ∷ later) ≡ s ∷ segments later
+segments_at [] later h = refl
+segments_at (b ∷ bs) later h =
+    let differs : eqb b 47 ≡ false = ne_eqb b 47 (h 0 (omega arith)) in
+    let rest : segments (bs ++ 47 ∷ later) ≡ bs ∷ segments later = segments_at bs later (λ i l. h (suc i) (omega arith)) in
+    rw differs (rw rest refl)
+
+segments_none : (s : List ℕ) → ((i : ℕ) → i < length s → get_or s i 0 ≢ 47) → segments s ≡ s ∷ []
+segments_none [] h = refl
+segments_none (b ∷ bs) h =
+    let differs : eqb b 47 ≡ false = ne_eqb b 47 (h 0 (omega arith)) in
+    let rest : segments bs ≡ bs ∷ [] = segments_none bs (λ i l. h (suc i) (omega arith)) in
+    rw differs (rw rest refl)
+
+record IsFilled (xs : List (List ℕ)) : Type 0 where
+  first : List ℕ
+  others : List (List ℕ)
+  is : xs ≡ first ∷ others
+
+filled_step : (b : ℕ) (bs : List ℕ) → IsFilled (segments bs) → (t : Bool) → eqb b 47 ≡ t → IsFilled (segments (b ∷ bs))
+filled_step b bs f true e = record { first = []; others = segments bs; is = rw e refl }
+filled_step b bs f false e = record { first = b ∷ f.first; others = f.others; is = rw e (rw f.is refl) }
+
+segments_filled : (bs : List ℕ) → IsFilled (segments bs)
+segments_filled [] = record { first = []; others = []; is = refl }
+segments_filled (b ∷ bs) = filled_step b bs (segments_filled bs) (eqb b 47) refl
+
+closed_more : (s : List ℕ) (xs : List (List ℕ)) → IsFilled xs → closed (s ∷ xs) ≡ s ∷ closed xs
+closed_more s xs f = rw f.is refl
+
+-- a turn of the walk, at a slash
+pub kept_step : (kept now : List (List ℕ)) (rest s later : List ℕ) → rest ≡ s ++ 47 ∷ later → ((i : ℕ) → i < length s → get_or s i 0 ≢ 47) → now ≡ enter kept s → fold enter now (closed (segments later)) ≡ fold enter kept (closed (segments rest))
+kept_step kept now rest s later e h n =
+    let whole : closed (segments rest) ≡ s ∷ closed (segments later) = ap (λ t. closed (segments t)) e ∙ (ap closed (segments_at s later h) ∙ closed_more s (segments later) (segments_filled later)) in
+    rw (whole, n) refl
+
+-- its end, at the last segment
+closed_last : (kept : List (List ℕ)) (s : List ℕ) (t : Bool) → (is_dot s || is_dot_dot s) ≡ t → fold enter kept (closed (s ∷ [])) ≡ cond t (enter kept s ++ [] ∷ []) (enter kept s)
+closed_last kept s true e = rw e refl
+closed_last kept s false e = rw e refl
+
+pub kept_end : (kept now : List (List ℕ)) (rest : List ℕ) (t : Bool) → ((i : ℕ) → i < length rest → get_or rest i 0 ≢ 47) → now ≡ enter kept rest → t ≡ (is_dot rest || is_dot_dot rest) → cond t (now ++ [] ∷ []) now ≡ fold enter kept (closed (segments rest))
+kept_end kept now rest t h n e = rw (segments_none rest h, n) (sym (closed_last kept rest t (sym e)))
+
+-- one up, by `truncate`
+pub up_more : (xs : List (Bor (List ℕ))) (n : ℕ) → n ≡ length xs → 1 < n → shown (take (n - 1) xs) ≡ up (shown xs)
+up_more xs n e more =
+    let same : length (shown xs) ≡ n = length-map xs (λ (s : Bor (List ℕ)). s.now) ∙ sym e in
+    let test : ltb 1 n ≡ true = lt-ltb 1 n more in
+    rw (same, test) (sym (take-map (λ (s : Bor (List ℕ)). s.now) (n - 1) xs))
+
+later_shown : (xs : List (Bor (List ℕ))) → flat_map (λ (y : Bor (List ℕ)). 47 ∷ y.now) xs ≡ flat_map (λ y. 47 ∷ y) (shown xs)
+later_shown [] = refl
+later_shown (x ∷ xs) = ap (λ t. 47 ∷ x.now ++ t) (later_shown xs)
+
+pub joined_shown : (xs : List (Bor (List ℕ))) → join_by (λ (y : Bor (List ℕ)). y.now) (47 ∷ []) xs ≡ joined (shown xs)
+joined_shown [] = refl
+joined_shown (x ∷ xs) = ap (λ t. x.now ++ t) (later_shown xs)
+
+past_seam : (s later : List ℕ) → drop (suc (length s)) (s ++ 47 ∷ later) ≡ later
+past_seam [] later = refl
+past_seam (b ∷ bs) later = past_seam bs later
+
+at_seam : (s later : List ℕ) → get_or (s ++ 47 ∷ later) (length s) 0 ≡ 47
+at_seam [] later = refl
+at_seam (b ∷ bs) later = at_seam bs later
+
+-- what follows a slash in a text is text
+pub later_text : (rest s later : List ℕ) → IsUtf8 rest → rest ≡ s ++ 47 ∷ later → IsUtf8 later
+later_text rest s later u e =
+    let same : drop (length s + 1) rest ≡ later = rw (e, add-one) (past_seam s later) in
+    let here : get_or rest (length s) 0 ≡ 47 = rw e (at_seam s later) in
+    let inside : length s < length rest = omega (arith, ap length e, length-append s (47 ∷ later)) in
+    let low : get_or rest (length s) 0 < 128 = omega arith in
+    rw same at (IsUtf8-drop rest (length s + 1) u (IsCharBoundary-after_ascii rest (length s) u inside low))
+
+pub end_dot : (kept : List (List ℕ)) (items last : List (Bor (List ℕ))) (x : Bor (List ℕ)) (rest : List ℕ) → ((i : ℕ) → i < length rest → get_or rest i 0 ≢ 47) → shown items ≡ enter kept rest → true ≡ (is_dot rest || is_dot_dot rest) → x.now ≡ [] → last ≡ items ++ x ∷ [] → shown last ≡ fold enter kept (closed (segments rest))
+end_dot kept items last x rest h n t e l =
+    let pushed : shown last ≡ shown items ++ [] ∷ [] = ap shown l ∙ (map-append (λ (s : Bor (List ℕ)). s.now) items (x ∷ []) ∙ ap (λ y. shown items ++ y ∷ []) e) in
+    pushed ∙ kept_end kept (shown items) rest true h n t
+
+pub end_plain : (kept : List (List ℕ)) (items : List (Bor (List ℕ))) (rest : List ℕ) → ((i : ℕ) → i < length rest → get_or rest i 0 ≢ 47) → shown items ≡ enter kept rest → false ≡ (is_dot rest || is_dot_dot rest) → shown items ≡ fold enter kept (closed (segments rest))
+end_plain kept items rest h n t = kept_end kept (shown items) rest false h n t

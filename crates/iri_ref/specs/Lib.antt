@@ -1,0 +1,5 @@
+pub mod Characters
+pub mod Components
+pub mod Faults
+pub mod Pieces
+pub mod Resolution

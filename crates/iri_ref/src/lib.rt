@@ -1,0 +1,20 @@
+//! References to IRIs by RFC 3986, sections 3 and 5: `parse` says where each component of a text stands,
+//! `is_absolute` whether a text is an IRI with a scheme, and `resolve` what a reference means at a base.
+//!
+//! Texts are read as bytes. The characters that no IRI holds are those of N-Quads (RDF 1.1 N-Quads, 4,
+//! IRIREF); nothing else of RFC 3987's grammar is asked for. A text whose part before the first colon is
+//! no scheme, as `1a:b`, has no scheme, and what stands there is path.
+#![tactic(auto)]
+
+mod dots;
+mod places;
+mod reading;
+mod resolving;
+mod splitting;
+#[cfg(test)]
+mod tests;
+
+pub use base_types::{Memory, Text};
+pub use places::{BadAt, Parts, Span};
+pub use reading::{is_absolute, parse, recompose_gives_back};
+pub use resolving::{IriFault, resolve};
