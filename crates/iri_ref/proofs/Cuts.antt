@@ -1,6 +1,6 @@
 -- Where a text is cut at a mark: `before`, `after` and `from` against std's `split_once` and `find`, and
 -- that the components make the text again.
-use Rattle.std.proofs.Common.{◌≡◌, ◌≢◌, ℕ, ◌+◌, ◌<◌, ◌≤◌, Bool, true, false, cond, eqb, List, [], ◌∷◌, ◌++◌, length, get_or, take, drop, Option, Some, None, suc, zero, refl, sym, ap, ◌∙◌, arith, rules, drop-cons, append_assoc, ◌&&◌, is_some, unwrap_or}
+use Rattle.std.proofs.Common.{◌≡◌, ◌≢◌, ℕ, ◌<◌, Bool, true, false, cond, eqb, List, [], ◌∷◌, ◌++◌, length, get_or, take, drop, Option, Some, None, suc, zero, refl, sym, ap, ◌∙◌, arith, rules, append_assoc, ◌&&◌, is_some, unwrap_or}
 use denote.Ref.{Bor}
 use Rattle.std.specs.Option.{MatchOption}
 use Rattle.std.proofs.lemmas.Bool.{ne_eqb, eqb-true}

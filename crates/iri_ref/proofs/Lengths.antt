@@ -2,15 +2,15 @@
 use Rattle.std.proofs.Common.{◌≡◌, ℕ, ◌+◌, List, ◌++◌, [], ◌∷◌, length, Option, Some, None, length-append, arith, refl}
 use Rattle.iri_ref.specs.Components.{Components, recompose, length_with, with_colon, with_mark}
 
-colon_length : (o : Option (List ℕ)) → length (with_colon o) ≡ length_with 1 o
+pub colon_length : (o : Option (List ℕ)) → length (with_colon o) ≡ length_with 1 o
 colon_length None = refl
 colon_length (Some s) = omega (arith, length-append s (58 ∷ []))
 
-slashes_length : (o : Option (List ℕ)) → length (with_mark (47 ∷ 47 ∷ []) o) ≡ length_with 2 o
+pub slashes_length : (o : Option (List ℕ)) → length (with_mark (47 ∷ 47 ∷ []) o) ≡ length_with 2 o
 slashes_length None = refl
 slashes_length (Some s) = omega arith
 
-mark_length : (c : ℕ) (o : Option (List ℕ)) → length (with_mark (c ∷ []) o) ≡ length_with 1 o
+pub mark_length : (c : ℕ) (o : Option (List ℕ)) → length (with_mark (c ∷ []) o) ≡ length_with 1 o
 mark_length c None = refl
 mark_length c (Some s) = omega arith
 

@@ -1,3 +1,5 @@
 pub mod Cuts
-pub mod Walk
 pub mod Lengths
+pub mod Loop
+pub mod Spans
+pub mod Walk

@@ -1,5 +1,5 @@
 -- The walk over the segments of a path, a segment at a time.
-use Rattle.std.proofs.Common.{◌≡◌, ◌≢◌, ℕ, ◌+◌, ◌-◌, ◌<◌, Bool, true, false, cond, eqb, ltb, ◌||◌, List, [], ◌∷◌, ◌++◌, length, get_or, take, map, suc, zero, refl, sym, ap, ◌∙◌, arith, rules, add-one, drop, length-append}
+use Rattle.std.proofs.Common.{◌≡◌, ◌≢◌, ℕ, ◌+◌, ◌-◌, ◌<◌, Bool, true, false, cond, eqb, ltb, ◌||◌, List, [], ◌∷◌, ◌++◌, length, get_or, take, suc, refl, sym, ap, ◌∙◌, arith, add-one, drop, length-append}
 use denote.Ref.{Bor}
 use Rattle.std.specs.List.{fold, join_by, flat_map}
 use Rattle.std.proofs.lemmas.Bool.{ne_eqb, lt-ltb}

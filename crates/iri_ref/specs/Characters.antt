@@ -1,5 +1,5 @@
 -- Which characters an IRI holds, and what a scheme is.
-use Rattle.std.specs.Prelude.{ℕ, List, ◌≡◌, Bool, false, ◌&&◌, ◌||◌, ◌==◌, nat_le, All, Option, position, slice_index}
+use Rattle.std.specs.Prelude.{ℕ, List, Bool, ◌&&◌, ◌||◌, ◌==◌, nat_le, Option, position, slice_index}
 use Rattle.std.specs.List.{list_all}
 
 -- a byte that no IRI holds: U+0020 and below, < > " { } | \ ^ and the backquote. -- RDF 1.1 N-Quads, 4, IRIREF
@@ -9,10 +9,6 @@ is_forbidden c = nat_le c 32 || (c == 60) || (c == 62) || (c == 34) || (c == 123
 -- the place of the first byte that is forbidden in an IRI, where there is one
 abbrev pub first_forbidden : List ℕ → Option ℕ
 first_forbidden text = position is_forbidden text
-
--- the text holds no byte that is forbidden in an IRI
-abbrev pub IsIri : List ℕ → Type 0
-IsIri text = All (λ c. is_forbidden c ≡ false) text
 
 -- ALPHA. -- RFC 3986, appendix A
 abbrev pub is_letter : ℕ → Bool

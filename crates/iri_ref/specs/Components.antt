@@ -1,5 +1,5 @@
 -- The five components of a URI or IRI reference, and how they make a text again.
-use Rattle.std.specs.Prelude.{ℕ, ◌+◌, List, [], ◌∷◌, ◌++◌, ◌≡◌, Bool, true, false, ◌&&◌, ◌==◌, if◌then◌else◌, Option, Some, None, length, drop, option_map, unwrap_or, is_some, IsTrue}
+use Rattle.std.specs.Prelude.{ℕ, ◌+◌, ◌-◌, take, List, [], ◌∷◌, ◌++◌, ◌≡◌, Bool, false, ◌&&◌, ◌==◌, if◌then◌else◌, Option, Some, None, length, drop, option_map, unwrap_or, is_some, IsTrue}
 use Rattle.iri_ref.specs.Characters.{first_forbidden, is_scheme}
 use Rattle.iri_ref.specs.declared.places.Span.{Span}
 use Rattle.iri_ref.specs.declared.places.Parts.{Parts}
@@ -97,3 +97,17 @@ spans c =
 -- an IRI with a scheme: the base of a resolution is one. -- RFC 3986, 5.1
 abbrev pub IsAbsolute : List ℕ → Type 0
 IsAbsolute text = IsTrue (has_scheme text) × (first_forbidden text ≡ None)
+
+-- the bytes of a span
+abbrev pub cut_out : List ℕ → Span → List ℕ
+cut_out text span = take (span.to - span.from) (drop span.from text)
+
+-- the texts that the spans cut out
+unfoldable pub parted_at : List ℕ → Parts → Components
+parted_at text p = record {
+  scheme = option_map (cut_out text) p.scheme;
+  authority = option_map (cut_out text) p.authority;
+  path = cut_out text p.path;
+  query = option_map (cut_out text) p.query;
+  fragment = option_map (cut_out text) p.fragment;
+}

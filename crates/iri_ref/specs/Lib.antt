@@ -1,3 +1,4 @@
+pub mod Buffers
 pub mod Characters
 pub mod Components
 pub mod Faults

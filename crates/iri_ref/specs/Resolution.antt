@@ -1,5 +1,5 @@
 -- What a reference means at a base. RFC 3986, 5.2, in its strict form.
-use Rattle.std.specs.Prelude.{ℕ, ◌-◌, List, [], ◌∷◌, ◌++◌, Bool, true, false, ◌&&◌, ◌||◌, ◌==◌, nat_lt, not, if◌then◌else◌, Option, Some, None, is_some, map, length, take}
+use Rattle.std.specs.Prelude.{ℕ, ◌-◌, List, [], ◌∷◌, ◌++◌, Bool, true, false, ◌&&◌, ◌||◌, ◌==◌, nat_lt, not, if◌then◌else◌, is_some, map, length, take}
 use Rattle.std.specs.List.{fold, join_by, slice_split}
 use Rattle.std.specs.Str.{bytes_eq}
 use Rattle.iri_ref.specs.Components.{Components, after}

@@ -7,6 +7,7 @@
 #![tactic(auto)]
 
 mod dots;
+mod laws;
 mod places;
 mod reading;
 mod resolving;
@@ -15,6 +16,7 @@ mod splitting;
 mod tests;
 
 pub use base_types::{Memory, Text};
+pub use laws::{recompose_gives_back, segments_agree_with_buffers, spans_cut_the_components};
 pub use places::{BadAt, Parts, Span};
-pub use reading::{is_absolute, parse, recompose_gives_back};
+pub use reading::{is_absolute, parse};
 pub use resolving::{IriFault, resolve};

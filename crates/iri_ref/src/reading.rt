@@ -1,4 +1,4 @@
-ghost use Rattle.std.specs.Prelude.{ℕ, List, ◌≡◌, ◌↔◌, ◌<◌, ◌^◌, ◌+◌, option_map, length, IsTrue, IsSome, MatchResult, None, Some};
+ghost use Rattle.std.specs.Prelude.{◌≡◌, ◌↔◌, ◌<◌, ◌^◌, ◌+◌, option_map, length, IsTrue, MatchResult, None, Some};
 ghost use Rattle.std.specs.Option.{option_copied};
 ghost use Rattle.iri_ref.specs.Characters.{first_forbidden};
 ghost use Rattle.iri_ref.specs.Components.{components, has_scheme, length_with, recompose, span_after, spans};
@@ -92,8 +92,3 @@ pub fn is_absolute(text: &str) -> bool
     let (scheme, _) = split_scheme(text);
     scheme.is_some() && forbidden_at(text).is_none()
 }
-
-/// The components of a text make the text again.
-pub fn recompose_gives_back()
-    ensures { (text : List ℕ) → recompose (components text) ≡ text }
-{}

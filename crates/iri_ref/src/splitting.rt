@@ -2,7 +2,7 @@ ghost use Rattle.std.specs.Prelude.{◌≡◌, ◌<◌, drop, if◌then◌else�
 ghost use Rattle.std.specs.Option.{option_copied};
 ghost use Rattle.std.specs.List.{list_all};
 ghost use Rattle.iri_ref.specs.Characters.{is_letter, is_scheme_character, is_scheme, is_forbidden};
-ghost use Rattle.iri_ref.specs.Components.{before, after, from, has_authority, has_scheme, hierarchy, relative_part, components};
+ghost use Rattle.iri_ref.specs.Components.{before, after, from, has_authority, has_scheme, relative_part, components};
 ghost use Rattle.iri_ref.specs.Pieces.{texts};
 
 /// The components of a text, each as it stands there.

@@ -1,4 +1,4 @@
-use Rattle.std.proofs.Common.{◌≡◌, ◌∙◌, ap, arith, sym, length}
+use Rattle.std.proofs.Common.{◌≡◌, ◌∙◌, ap, arith, length}
 use Rattle.iri_ref.specs.Pieces.{shown}
 use Rattle.iri_ref.proofs.Walk.{up_more}
 use Rattle.iri_ref.proofs.dots.go_up.Goals as goal

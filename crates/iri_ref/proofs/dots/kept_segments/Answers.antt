@@ -1,4 +1,4 @@
-use Rattle.std.proofs.Common.{◌≡◌, ◌≢◌, ◌∙◌, ℕ, ◌<◌, ap, sym, refl, length, get_or, Some, None, lit<, List, ◌++◌, ◌∷◌, []}
+use Rattle.std.proofs.Common.{◌≡◌, ◌≢◌, ◌∙◌, ℕ, ◌<◌, ap, refl, length, get_or, Some, None, lit<, ◌++◌, ◌∷◌}
 use Rattle.std.proofs.lemmas.Str.Pattern.{split_parts}
 use Rattle.iri_ref.specs.Pieces.{shown}
 use Rattle.iri_ref.proofs.Walk.{later_text, kept_step, end_dot, end_plain}

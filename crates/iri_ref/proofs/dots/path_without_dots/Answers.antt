@@ -1,4 +1,4 @@
-use Rattle.std.proofs.Common.{◌≡◌, ◌∙◌, ap, List, ℕ, [], ◌∷◌}
+use Rattle.std.proofs.Common.{◌∙◌, ap, List, ℕ, [], ◌∷◌}
 use denote.Ref.{Bor}
 use Rattle.std.specs.List.{join_by}
 use Rattle.iri_ref.specs.Resolution.{joined, remove_dot_segments}

@@ -1,4 +1,4 @@
-use Rattle.std.proofs.Common.{Some, None, sym, ap}
+use Rattle.std.proofs.Common.{Some, None, sym}
 use Rattle.iri_ref.proofs.Cuts.{once_parts}
 use Rattle.iri_ref.proofs.splitting.cut.Goals as goal
 
