@@ -2,6 +2,7 @@
 use Rattle.std.specs.Prelude.{◌≡◌, ◌≢◌, ◌-◌, ℕ, List, [], ◌∷◌, ◌++◌, Bool, true, false, ◌&&◌, ◌||◌, ◌==◌, nat_le, All, Option, MatchOption, IfSome, codes, length, slice_index}
 use Rattle.std.specs.List.{flat_map}
 use Rattle.base_types.specs.Sets.{AllDiffer}
+pub use Rattle.iri_ref.specs.Characters.{is_letter, is_forbidden}
 
 -- How a blank node got its name: a document's label, or the place of a node, of a graph or of a list
 -- cell that the document does not name.
@@ -43,15 +44,8 @@ rdf_lang_string = codes "http://www.w3.org/1999/02/22-rdf-syntax-ns#langString"
 
 -- ---- the grammar of the parts
 
-abbrev pub is_letter : ℕ → Bool
-is_letter c = (nat_le 65 c && nat_le c 90) || (nat_le 97 c && nat_le c 122)
-
 abbrev pub is_digit : ℕ → Bool
 is_digit c = nat_le 48 c && nat_le c 57
-
--- a byte that no IRI holds: U+0020 and below, < > " { } | \ ^ and the backquote. -- RDF 1.1 N-Quads, 4, IRIREF
-abbrev pub is_forbidden : ℕ → Bool
-is_forbidden c = nat_le c 32 || (c == 60) || (c == 62) || (c == 34) || (c == 123) || (c == 125) || (c == 124) || (c == 92) || (c == 94) || (c == 96)
 
 -- The text holds no byte that is forbidden in an IRI. That it is absolute is asked where IRIs are read.
 abbrev pub HasIriCharacters : List ℕ → Type 0
