@@ -1,5 +1,5 @@
 -- What the call answers, from what its steps gave.
-use Rattle.std.proofs.Common.{◌≡◌, true, List, map, Option, Some, None, Err, option_map, Vec, sym, ap, ◌∙◌, subst}
+use Rattle.std.proofs.Common.{◌≡◌, true, List, map, Some, None, Err, option_map, sym, subst}
 use Rattle.base_types.specs.Sets.{SameElements, AllDiffer}
 use Rattle.json_tree.specs.declared.tree.Tree.{Tree}
 use Rattle.json_tree.specs.Trees.{is_lawful}

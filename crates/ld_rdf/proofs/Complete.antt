@@ -1,9 +1,8 @@
 -- A flat request has the shape, and its parts give statements.
-use Rattle.std.proofs.Common.{◌≡◌, ◌≢◌, ℕ, ◌<◌, Bool, true, false, ◌&&◌, ◌||◌, List, [], ◌∷◌, map, Contains, Option, Some, None, option_map, option_and_then, inl, inr, refl, sym, ap, ◌∙◌, subst, codes}
+use Rattle.std.proofs.Common.{◌≡◌, ℕ, true, false, List, [], ◌∷◌, map, Contains, Some, None, inl, inr, refl, sym, ap, ◌∙◌, subst, codes}
 use Rattle.std.specs.List.{list_all}
-use Rattle.std.specs.Option.{option_map_or}
 use Rattle.std.specs.Str.{bytes_eq}
-use Rattle.std.proofs.lemmas.Bool.{cases_Bool, true≢false}
+use Rattle.std.proofs.lemmas.Bool.{cases_Bool}
 use Rattle.base_types.proofs.Lists.{Contains-map}
 use Rattle.json_tree.specs.declared.tree.Tree.{Tree}
 use Rattle.json_tree.specs.declared.tree.Tree.TheVariants as v
@@ -13,13 +12,12 @@ use Rattle.json_tree.specs.Trees.{is_lawful}
 use Rattle.json_tree.specs.Places.{names_at, text_of, members_of, value_of}
 use Rattle.json_tree.proofs.TreeLemmas.{names_at-members, text_of-Text}
 use Rattle.nquads.specs.Terms.{Statement}
-use Rattle.ld_rdf.specs.Plain.{is_plain_iri, is_plain_term, has_noncharacter}
-use Rattle.ld_rdf.specs.Flat.{at_context, at_id, HasText, term_place, IsFlat, DefinesTerm, HasValue}
-use Rattle.ld_rdf.specs.Parts.{text_at, is_definition, property_of, is_entry, statements_in, described, flat_statements}
+use Rattle.ld_rdf.specs.Plain.{has_noncharacter}
+use Rattle.ld_rdf.specs.Flat.{at_context, at_id, HasText, term_place, IsFlat}
+use Rattle.ld_rdf.specs.Parts.{text_at, is_definition, property_of, is_entry, described, flat_statements}
 use Rattle.ld_rdf.proofs.Helpers.{option_map-Some, same_value, equal_text, list_all-from}
 use Rattle.ld_rdf.proofs.Shapes.{Shape, child_is, names_down, at_term, at_member, terms_lawful, document_lawful, parts}
 use Rattle.ld_rdf.proofs.Meaning.{text_at-from, entry_false, property_from, statements_exist, value_at_member}
-use Rattle.json_tree.proofs.Rising.{bytes_eq-itself}
 
 abbrev keys : List (Member Tree) → List (List ℕ)
 keys ms = map (λ m. m.key) ms

@@ -1,7 +1,7 @@
 -- The dataset of a flat request.
-use Rattle.std.proofs.Common.{◌≡◌, ◌≢◌, ℕ, ◌<◌, ◌≤◌, Bool, true, false, ◌&&◌, ◌||◌, ◌==◌, nat_le, List, [], ◌∷◌, map, Contains, All, bytes_eq, not, Option, Some, None, option_map, inl, inr, refl, sym, ap, ◌∙◌, subst, arith, codes}
-use Rattle.std.specs.List.{list_all, starts_with}
-use Rattle.std.proofs.lemmas.Bool.{true≢false, or_cases}
+use Rattle.std.proofs.Common.{◌≡◌, ◌≢◌, ℕ, true, false, ◌==◌, List, map, Contains, bytes_eq, not, Some, refl, sym, ap, ◌∙◌, subst, arith, codes}
+use Rattle.std.specs.List.{starts_with}
+use Rattle.std.proofs.lemmas.Bool.{true≢false}
 use Rattle.std.proofs.lemmas.Bool.Decides.{nat_tests}
 use Rattle.std.proofs.lemmas.List.Elements.{All-weaker}
 use Rattle.std.proofs.lemmas.List.Sums.{AllPass-from_list_all}
@@ -9,14 +9,14 @@ use Rattle.base_types.specs.Sets.{SameElements, AllDiffer}
 use Rattle.base_types.proofs.Lists.{Contains-map, Contains-from_map}
 use Rattle.json_tree.specs.declared.tree.Tree.{Tree}
 use Rattle.json_tree.specs.Trees.{is_lawful}
-use Rattle.nquads.specs.Terms.{iri, literal, Statement, HasIriCharacters, IsTerm, IsStatement, is_forbidden, is_letter, is_digit, xsd_string, rdf_lang_string}
+use Rattle.nquads.specs.Terms.{Statement, HasIriCharacters, IsStatement, is_forbidden, xsd_string, rdf_lang_string}
 use Rattle.nquads.specs.Spelling.{spelled}
 use Rattle.nquads.specs.declared.quads.TextQuad.{TextQuad}
 use Rattle.nquads.proofs.ReadingTerms.{spelled_one_reading}
-use Rattle.ld_rdf.specs.Plain.{is_iri_character, is_plain_iri, IsPlainIri}
+use Rattle.ld_rdf.specs.Plain.{is_iri_character, IsPlainIri}
 use Rattle.ld_rdf.specs.Flat.{property_statement, IsFlat, IsFlatMeaning, Means}
 use Rattle.ld_rdf.specs.Parts.{flat_statements}
-use Rattle.ld_rdf.proofs.Helpers.{option_map-Some, same_value, and_right, not_true, picked, AllDiffer-images}
+use Rattle.ld_rdf.proofs.Helpers.{and_right, not_true, picked, AllDiffer-images}
 use Rattle.ld_rdf.proofs.Shapes.{Shape, shape_from_statements, parts}
 use Rattle.ld_rdf.proofs.Meaning.{Description, description, is_flat, means_from, means_to, means_plain}
 

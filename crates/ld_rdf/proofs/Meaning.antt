@@ -1,7 +1,6 @@
 -- The parts of a flat request against its definition by places, both ways.
-use Rattle.std.proofs.Common.{◌≡◌, ◌≢◌, ℕ, ◌<◌, Bool, true, false, ◌&&◌, ◌||◌, not, List, [], ◌∷◌, map, length, get_or, inl, inr, Contains, Option, Some, None, option_map, option_and_then, if◌then◌else◌, refl, sym, ap, ◌∙◌, subst, codes, arith}
+use Rattle.std.proofs.Common.{◌≡◌, ◌≢◌, ℕ, true, false, ◌&&◌, ◌||◌, not, List, [], ◌∷◌, map, get_or, inl, inr, Contains, Some, option_map, option_and_then, refl, sym, ap, ◌∙◌, subst}
 use Rattle.std.specs.List.{list_all}
-use Rattle.std.specs.Option.{option_map_or}
 use Rattle.std.specs.Str.{bytes_eq}
 use Rattle.std.proofs.lemmas.Bool.{cases_Bool, true≢false, or_right}
 use Rattle.std.proofs.lemmas.List.{get_or_default}
@@ -14,11 +13,11 @@ use Rattle.json_tree.specs.Places.{look, text_of, value_of}
 use Rattle.json_tree.proofs.Rising.{value_of-at, value_of-Some, Stands}
 use Rattle.json_tree.proofs.TreeLemmas.{text_of-Some, text_of-Text}
 use Rattle.nquads.specs.Terms.{Statement}
-use Rattle.ld_rdf.specs.Plain.{is_plain_iri, is_plain_term, has_noncharacter, HasNoncharacter}
-use Rattle.ld_rdf.specs.Flat.{at_context, at_id, term_place, document_place, HasText, DefinesTerm, HasValue, IsFlat, Means, property_statement}
-use Rattle.ld_rdf.specs.Parts.{provided, text_at, is_definition, property_of, is_entry, agrees, statements_in, described, flat_statements}
-use Rattle.ld_rdf.proofs.Helpers.{and_then-Some, option_map-Some, provided-Some, map_or-true, not_true, same_value, and_left, and_right, same_text, equal_text, list_all-contains, list_all-from}
-use Rattle.ld_rdf.proofs.Shapes.{Shape, shape_from_statements, at_term, at_member, names-request, names-contexts, names-supplied, names-terms, names-document, terms_lawful, document_lawful, parts}
+use Rattle.ld_rdf.specs.Plain.{is_plain_iri, is_plain_term, has_noncharacter}
+use Rattle.ld_rdf.specs.Flat.{at_context, at_id, term_place, document_place, HasText, DefinesTerm, IsFlat, Means, property_statement}
+use Rattle.ld_rdf.specs.Parts.{provided, text_at, is_definition, property_of, is_entry, agrees, statements_in, described}
+use Rattle.ld_rdf.proofs.Helpers.{and_then-Some, option_map-Some, provided-Some, map_or-true, not_true, same_value, and_left, and_right, same_text, equal_text, list_all-contains}
+use Rattle.ld_rdf.proofs.Shapes.{Shape, at_term, at_member, names-request, names-contexts, names-supplied, names-terms, names-document, terms_lawful, document_lawful}
 
 -- ---- texts among members
 

@@ -1,5 +1,5 @@
 -- Noncharacters byte by byte, and plain IRIs in the grammar of IRIs.
-use Rattle.std.proofs.Common.{◌≡◌, ℕ, ◌+◌, ◌<◌, Bool, true, false, ◌&&◌, ◌||◌, List, [], ◌∷◌, length, get_or, drop, refl, sym, ap, ◌∙◌, arith, add-one, drop-cons}
+use Rattle.std.proofs.Common.{◌≡◌, ℕ, ◌+◌, ◌<◌, true, false, ◌||◌, List, [], ◌∷◌, length, get_or, drop, sym, ap, ◌∙◌, add-one, drop-cons}
 use Rattle.ld_rdf.specs.Plain.{is_noncharacter_first, has_noncharacter}
 
 pub noncharacter_here : (xs : List ℕ) → is_noncharacter_first xs ≡ true → has_noncharacter xs ≡ true

@@ -1,20 +1,18 @@
 -- A flat request by its members: what its places show, and what its parts are.
-use Rattle.std.proofs.Common.{◌≡◌, ◌≢◌, ℕ, ◌<◌, Bool, true, false, ◌&&◌, List, [], ◌∷◌, map, length, get_or, Contains, Option, Some, None, option_map, option_and_then, refl, sym, ap, ◌∙◌, subst, codes, arith}
-use Rattle.std.specs.List.{list_all}
+use Rattle.std.proofs.Common.{◌≡◌, ℕ, true, false, ◌&&◌, List, [], ◌∷◌, map, Option, Some, None, option_map, option_and_then, refl, ap, ◌∙◌, codes}
 use Rattle.std.specs.Str.{bytes_eq}
 use Rattle.json_tree.specs.declared.tree.Tree.{Tree, out-Tree}
-use Rattle.json_tree.specs.declared.tree.Tree.TheVariants as v
 use Rattle.json_tree.specs.declared.tree.Member.{Member}
 use Rattle.json_tree.specs.declared.place.Step.{Step}
 use Rattle.json_tree.specs.declared.place.Step.TheVariants.{Key}
 use Rattle.json_tree.specs.Trees.{is_lawful, AreLawful}
-use Rattle.json_tree.specs.Places.{child_of, look, names_in, names_at, text_of, members_of, value_of}
-use Rattle.json_tree.proofs.Rising.{bytes_eq-itself, value_of-at}
-use Rattle.json_tree.proofs.TreeLemmas.{child_of-members, names_at-members, members_of-Some, text_of-Some, text_of-Text, lawful_members}
+use Rattle.json_tree.specs.Places.{child_of, look, names_in, names_at, members_of, value_of}
+use Rattle.json_tree.proofs.Rising.{bytes_eq-itself}
+use Rattle.json_tree.proofs.TreeLemmas.{child_of-members, names_at-members, members_of-Some, lawful_members}
 use Rattle.nquads.specs.Terms.{Statement}
-use Rattle.ld_rdf.specs.Flat.{at_context, at_id, context_place, term_place, document_place, HasText, IsFlat}
-use Rattle.ld_rdf.specs.Parts.{provided, text_at, only_in, only_of, two_in, unwrapped, supplied_in, described, flat_statements}
-use Rattle.ld_rdf.proofs.Helpers.{and_then-Some, option_map-Some, provided-Some, same_value, and_left, and_right, same_text, equal_text, list_all-contains}
+use Rattle.ld_rdf.specs.Flat.{at_context, context_place, term_place, document_place}
+use Rattle.ld_rdf.specs.Parts.{provided, only_in, only_of, two_in, unwrapped, supplied_in, described, flat_statements}
+use Rattle.ld_rdf.proofs.Helpers.{and_then-Some, option_map-Some, provided-Some, same_value, and_left, and_right, same_text, equal_text}
 
 -- ---- one step down
 

@@ -1,13 +1,13 @@
 -- Flat requests, and the statements that their documents mean: a part of JSON-LD 1.1 that needs no
 -- expansion. What is said of a request is said of the places in it.
-use Rattle.std.specs.Prelude.{◌≡◌, ◌≢◌, ℕ, List, [], ◌∷◌, Contains, Option, Some, None, codes}
+use Rattle.std.specs.Prelude.{◌≡◌, ◌≢◌, ℕ, List, [], ◌∷◌, Contains, Some, None, codes}
 use Rattle.base_types.specs.Sets.{HasExactly}
 use Rattle.json_tree.specs.declared.tree.Tree.{Tree}
 use Rattle.json_tree.specs.declared.tree.Tree.TheVariants as v
 use Rattle.json_tree.specs.declared.place.Step.{Step}
 use Rattle.json_tree.specs.declared.place.Step.TheVariants.{Key}
 use Rattle.json_tree.specs.Places.{look, names_at}
-use Rattle.nquads.specs.Terms.{Term, iri, literal, Statement, IsDataset, xsd_string}
+use Rattle.nquads.specs.Terms.{iri, literal, Statement, IsDataset, xsd_string}
 use Rattle.ld_rdf.specs.Plain.{IsPlainIri, IsPlainTerm, HasNoncharacter}
 
 abbrev pub at_context : List ℕ
