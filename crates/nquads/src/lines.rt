@@ -8,6 +8,7 @@ ghost use Rattle.nquads.specs.Texts.{label_in, IsNamed, Names, graph_part_text, 
 
 use crate::labels::TextLabels;
 use crate::quads::{TextQuad, TextQuads};
+use crate::spelling::text_with_room;
 use base_types::{Memory, Text};
 use std::alloc::Global;
 
@@ -90,11 +91,25 @@ fn joined(alloc: Global, lines: &[Text]) -> Result<Vec<u8>, Memory>
     Ok(bytes)
 }
 
+/// About as many bytes as the line has: the parts, a space behind each, a dot and LF.
+fn room_for(quad: &TextQuad) -> usize {
+    let graph = match &quad.graph {
+        Some(graph) => graph.len(),
+        None => 0,
+    };
+    quad.subject
+        .len()
+        .saturating_add(quad.predicate.len())
+        .saturating_add(quad.object.len())
+        .saturating_add(graph)
+        .saturating_add(6)
+}
+
 fn written(alloc: Global, quad: &TextQuad, labels: &TextLabels) -> Result<Text, Memory>
     requires { Names labels.now quad.now }
     ensures { IfOk result (λ t. t ≡ text_line labels.now quad.now) }
 {
-    let mut out = Text::new(alloc);
+    let mut out = text_with_room(alloc, room_for(quad))?;
     push_part(&mut out, &quad.subject, labels)?;
     out.push_str(" ")?;
     out.push_str(quad.predicate.as_str())?;

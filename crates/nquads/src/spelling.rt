@@ -9,6 +9,13 @@ use std::alloc::Global;
 /// The datatype of a literal that is written without one.
 const XSD_STRING: &str = "http://www.w3.org/2001/XMLSchema#string";
 
+/// The empty text, with room for so many bytes.
+pub(crate) fn text_with_room(alloc: Global, bytes: usize) -> Result<Text, Memory>
+    ensures { IfOk result (λ t. t ≡ []) }
+{
+    Ok(Text::from_string(String::with_capacity(alloc, bytes)?))
+}
+
 /// An IRI as it stands in a line: in angle brackets. RDF 1.1 N-Quads, 4, IRIREF.
 ///
 /// # Errors
@@ -17,7 +24,8 @@ const XSD_STRING: &str = "http://www.w3.org/2001/XMLSchema#string";
 pub fn iri(alloc: Global, text: &str) -> Result<Text, Memory>
     ensures { IfOk result (λ t. t ≡ iri_text text.now) }
 {
-    let mut out = Text::from_str(alloc, "<")?;
+    let mut out = text_with_room(alloc, text.len().saturating_add(2))?;
+    out.push_str("<")?;
     out.push_str(text)?;
     out.push_str(">")?;
     Ok(out)
@@ -38,7 +46,8 @@ pub fn literal(
 ) -> Result<Text, Memory>
     ensures { IfOk result (λ t. t ≡ literal_text text.now datatype.now (option_copied language.entry)) }
 {
-    let mut out = Text::from_str(alloc, "\"")?;
+    let mut out = text_with_room(alloc, text.len().saturating_add(2))?;
+    out.push_str("\"")?;
     push_escaped(&mut out, text)?;
     out.push_str("\"")?;
     push_end(&mut out, datatype, language)?;

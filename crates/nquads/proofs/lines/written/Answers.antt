@@ -4,7 +4,7 @@ use Rattle.nquads.proofs.lines.written.Goals as goal
 pub returns : goal.returns
 returns c =
     assembled c.args.labels.now c.args.quad.now _ _ _ _ _ _ _ _ _ _
-    c.new-out.ensures
+    c.in_ok-out.ensures
     c.in_ok-push_part.ensures
     c.in_ok-push_str.ensures.ok
     c.as_str.ensures
