@@ -1,5 +1,5 @@
 -- Induction over trees.
-use Rattle.std.proofs.Common.{ℕ, Bool, List, [], ◌∷◌, map, sym, subst}
+use Rattle.std.proofs.Common.{ℕ, ℤ, Bool, List, [], ◌∷◌, map, sym, subst}
 use Rattle.json_tree.specs.declared.tree.Tree.{Tree, ind-Tree, map-Tree, roll-Tree}
 use Rattle.json_tree.specs.declared.tree.Tree.TheOpen.{Tree-F}
 use Rattle.json_tree.specs.declared.tree.Tree.TheVariants as v
@@ -15,7 +15,8 @@ Each P (x ∷ xs) = P x × Each P xs
 pub record Cases (P : Tree → Type 0) : Type 0 where
   pub null : P v.Null
   pub boolean : (b : Bool) → P (v.Bool b)
-  pub number : P v.Number
+  pub whole : (z : ℤ) → P (v.Whole z)
+  pub version : P v.Version
   pub text : (text : List ℕ) → P (v.Text text)
   pub items : (is : List (Item Tree)) → Each (λ (i : Item Tree). P i.value) is → P (v.List is)
   pub members : (ms : List (Member Tree)) → Each (λ (m : Member Tree). P m.value) ms → P (v.Object ms)
@@ -32,7 +33,8 @@ module _ (P : Tree → Type 0) where
 at_level : (P : Tree → Type 0) → Cases P → (y : Tree-F ((t : Tree) × P t)) → P (roll-Tree (map-Tree ((t : Tree) × P t) Tree (λ e. e.0) y))
 at_level P cs Tree-F.Null = subst P (sym v.rolls-Null) cs.null
 at_level P cs (Tree-F.Bool b) = subst P (sym (v.rolls-Bool b)) (cs.boolean b)
-at_level P cs Tree-F.Number = subst P (sym v.rolls-Number) cs.number
+at_level P cs (Tree-F.Whole z) = subst P (sym (v.rolls-Whole z)) (cs.whole z)
+at_level P cs Tree-F.Version = subst P (sym v.rolls-Version) cs.version
 at_level P cs (Tree-F.Text text) = subst P (sym (v.rolls-Text text)) (cs.text text)
 at_level P cs (Tree-F.List is) = subst P (sym (v.rolls-List _)) (cs.items _ (items_such P is))
 at_level P cs (Tree-F.Object ms) = subst P (sym (v.rolls-Object _)) (cs.members _ (members_such P ms))

@@ -1,4 +1,10 @@
 pub mod Rising
 pub mod TreeLemmas
 pub mod Induction
+pub mod Equations
+pub mod Depths
+pub mod Searching
 pub mod Steps
+pub mod Escapes
+pub mod Writing
+pub mod RoundTrip

@@ -15,10 +15,11 @@ use Rattle.json_tree.specs.declared.tree.Tree.{Tree}
 use Rattle.json_tree.specs.declared.tree.Tree.TheVariants as v
 use Rattle.json_tree.specs.declared.tree.Item.{Item}
 use Rattle.json_tree.specs.declared.tree.Member.{Member}
-use Rattle.json_tree.specs.Trees.{elements_of, entries_of, each_next, is_before, is_lawful}
+use Rattle.json_tree.specs.Trees.{elements_of, entries_of, each_next, is_before, is_lawful, is_in_range}
 use Rattle.json_tree.specs.Reads.{IsTreeOf, AreElementsOf, AreEntriesOf}
 use Rattle.json_tree.proofs.Rising.{both_hold, NamesRise}
 use Rattle.json_tree.proofs.TreeLemmas.{is_lawful-List, is_lawful-Object}
+use Rattle.json_tree.proofs.Equations.{is_in_range-List, is_in_range-Object}
 
 -- the indexes of what is read rise
 pub elements_rise : (n : ℕ) (ds : Items) → each_next (λ i j. nat_lt i.at j.at) (elements_of n ds) ≡ true
@@ -39,12 +40,14 @@ pub list_made : (ds : Items) (es : List (Item Tree)) → AreElementsOf ds es →
 list_made ds es made = record {
   is = ap v.List made.is;
   lawful = is_lawful-List es ∙ both_hold _ _ (ap (each_next (λ i j. nat_lt i.at j.at)) made.is ∙ elements_rise 0 ds) made.lawful;
+  in_range = is_in_range-List es ∙ made.in_range;
 }
 
 pub object_made : (ms : Members) (members : List (Member Tree)) → AreEntriesOf ms members → IsTreeOf (object ms) (v.Object members)
 object_made ms members made = record {
   is = ap v.Object made.is;
   lawful = is_lawful-Object members ∙ both_hold _ _ made.rising made.lawful;
+  in_range = is_in_range-Object members ∙ made.in_range;
 }
 
 -- the same of a value of the reader's
@@ -55,7 +58,7 @@ pub object_read : (value : Value) (map : BTreeMap (String Global) Value) (member
 object_read value map members is made = rw (is, view-Object) (object_made (members_view map.entries) members made)
 
 -- at the end of a map nothing is left to read
-pub entries_made : (es left : List (String Global × Value)) (members : List (Member Tree)) → entries_of (members_view es) ≡ members ++ entries_of (members_view left) → left ≡ [] → IsStrictlySortedBy string_cmp (keys_of es) → list_all (λ m. is_lawful m.value) members ≡ true → AreEntriesOf (members_view es) members
-entries_made es left members read none sorted lawful =
+pub entries_made : (es left : List (String Global × Value)) (members : List (Member Tree)) → entries_of (members_view es) ≡ members ++ entries_of (members_view left) → left ≡ [] → IsStrictlySortedBy string_cmp (keys_of es) → list_all (λ m. is_lawful m.value) members ≡ true → list_all (λ m. is_in_range m.value) members ≡ true → AreEntriesOf (members_view es) members
+entries_made es left members read none sorted lawful in_range =
     let is : members ≡ entries_of (members_view es) = sym (read ∙ ap (λ l. members ++ entries_of (members_view l)) none ∙ append-nil members) in
-    record { is = is; rising = ap (each_next (λ m n. is_before m.key n.key)) is ∙ entries_rise es sorted; lawful = lawful }
+    record { is = is; rising = ap (each_next (λ m n. is_before m.key n.key)) is ∙ entries_rise es sorted; lawful = lawful; in_range = in_range }

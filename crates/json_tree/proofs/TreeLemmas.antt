@@ -1,5 +1,5 @@
 -- One equation for each variant of a tree, for each definition by cases on it.
-use Rattle.std.proofs.Common.{◌≡◌, ℕ, Bool, true, ◌&&◌, ◌==◌, nat_lt, List, [], map, Some, None, option_map, option_and_then, find, refl, sym, ap, ◌∙◌}
+use Rattle.std.proofs.Common.{◌≡◌, ℕ, ℤ, Bool, true, ◌&&◌, ◌==◌, nat_lt, List, [], map, Some, None, option_map, option_and_then, find, refl, sym, ap, ◌∙◌}
 use Rattle.std.specs.List.{list_all}
 use Rattle.std.proofs.lemmas.List.Folds.{list_all-map}
 use Rattle.json_tree.specs.declared.tree.Tree.{Tree, fold-roll-Tree, out-Tree, roll-Tree, roll-out-Tree}
@@ -21,8 +21,11 @@ is_lawful-Null = ap is_lawful (sym v.rolls-Null) ∙ fold-roll-Tree Bool lawful_
 pub is_lawful-Bool : (b : Bool) → is_lawful (v.Bool b) ≡ true
 is_lawful-Bool b = ap is_lawful (sym (v.rolls-Bool b)) ∙ fold-roll-Tree Bool lawful_step (Tree-F.Bool b)
 
-pub is_lawful-Number : is_lawful v.Number ≡ true
-is_lawful-Number = ap is_lawful (sym v.rolls-Number) ∙ fold-roll-Tree Bool lawful_step Tree-F.Number
+pub is_lawful-Whole : (z : ℤ) → is_lawful (v.Whole z) ≡ true
+is_lawful-Whole z = ap is_lawful (sym (v.rolls-Whole z)) ∙ fold-roll-Tree Bool lawful_step (Tree-F.Whole z)
+
+pub is_lawful-Version : is_lawful v.Version ≡ true
+is_lawful-Version = ap is_lawful (sym v.rolls-Version) ∙ fold-roll-Tree Bool lawful_step Tree-F.Version
 
 pub is_lawful-Text : (text : List ℕ) → is_lawful (v.Text text) ≡ true
 is_lawful-Text text = ap is_lawful (sym (v.rolls-Text text)) ∙ fold-roll-Tree Bool lawful_step (Tree-F.Text text)
@@ -68,8 +71,11 @@ child_of-Null step = ap (λ x. child_in x step) v.outs-Null
 pub child_of-Bool : (b : Bool) (step : Step) → child_of (v.Bool b) step ≡ None
 child_of-Bool b step = ap (λ x. child_in x step) (v.outs-Bool b)
 
-pub child_of-Number : (step : Step) → child_of v.Number step ≡ None
-child_of-Number step = ap (λ x. child_in x step) v.outs-Number
+pub child_of-Whole : (z : ℤ) (step : Step) → child_of (v.Whole z) step ≡ None
+child_of-Whole z step = ap (λ x. child_in x step) (v.outs-Whole z)
+
+pub child_of-Version : (step : Step) → child_of v.Version step ≡ None
+child_of-Version step = ap (λ x. child_in x step) v.outs-Version
 
 pub child_of-Text : (text : List ℕ) (step : Step) → child_of (v.Text text) step ≡ None
 child_of-Text text step = ap (λ x. child_in x step) (v.outs-Text text)
@@ -94,8 +100,11 @@ names_at-Null = ap names_in v.outs-Null
 pub names_at-Bool : (b : Bool) → names_at [] (v.Bool b) ≡ None
 names_at-Bool b = ap names_in (v.outs-Bool b)
 
-pub names_at-Number : names_at [] v.Number ≡ None
-names_at-Number = ap names_in v.outs-Number
+pub names_at-Whole : (z : ℤ) → names_at [] (v.Whole z) ≡ None
+names_at-Whole z = ap names_in (v.outs-Whole z)
+
+pub names_at-Version : names_at [] v.Version ≡ None
+names_at-Version = ap names_in v.outs-Version
 
 pub names_at-Text : (text : List ℕ) → names_at [] (v.Text text) ≡ None
 names_at-Text text = ap names_in (v.outs-Text text)
@@ -116,7 +125,8 @@ members_of-Object members = ap members_in (v.outs-Object members)
 is_text : (x : Tree-F Tree) (text : List ℕ) → text_in x ≡ Some text → x ≡ Tree-F.Text text
 is_text Tree-F.Null text h = absurd (cc)
 is_text (Tree-F.Bool b) text h = absurd (cc)
-is_text Tree-F.Number text h = absurd (cc)
+is_text (Tree-F.Whole z) text h = absurd (cc)
+is_text Tree-F.Version text h = absurd (cc)
 is_text (Tree-F.Text s) text h = cc
 is_text (Tree-F.List items) text h = absurd (cc)
 is_text (Tree-F.Object members) text h = absurd (cc)
@@ -127,7 +137,8 @@ text_of-Some t text h = sym (roll-out-Tree t) ∙ ap roll-Tree (is_text (out-Tre
 is_object : (x : Tree-F Tree) (members : List (Member Tree)) → members_in x ≡ Some members → x ≡ Tree-F.Object members
 is_object Tree-F.Null members h = absurd (cc)
 is_object (Tree-F.Bool b) members h = absurd (cc)
-is_object Tree-F.Number members h = absurd (cc)
+is_object (Tree-F.Whole z) members h = absurd (cc)
+is_object Tree-F.Version members h = absurd (cc)
 is_object (Tree-F.Text s) members h = absurd (cc)
 is_object (Tree-F.List items) members h = absurd (cc)
 is_object (Tree-F.Object ms) members h = cc
@@ -139,7 +150,8 @@ members_of-Some t members h = sym (roll-out-Tree t) ∙ ap roll-Tree (is_object 
 child_of_members : (x : Tree-F Tree) (key : List ℕ) → child_in x (Key key) ≡ option_and_then (value_of key) (members_in x)
 child_of_members Tree-F.Null key = refl
 child_of_members (Tree-F.Bool b) key = refl
-child_of_members Tree-F.Number key = refl
+child_of_members (Tree-F.Whole z) key = refl
+child_of_members Tree-F.Version key = refl
 child_of_members (Tree-F.Text s) key = refl
 child_of_members (Tree-F.List items) key = refl
 child_of_members (Tree-F.Object ms) key = refl
@@ -151,7 +163,8 @@ child_of-members t key = child_of_members (out-Tree t) key
 names_of_members : (x : Tree-F Tree) → names_in x ≡ option_map (λ members. map (λ m. m.key) members) (members_in x)
 names_of_members Tree-F.Null = refl
 names_of_members (Tree-F.Bool b) = refl
-names_of_members Tree-F.Number = refl
+names_of_members (Tree-F.Whole z) = refl
+names_of_members Tree-F.Version = refl
 names_of_members (Tree-F.Text s) = refl
 names_of_members (Tree-F.List items) = refl
 names_of_members (Tree-F.Object ms) = refl

@@ -1,8 +1,10 @@
 -- Places in a tree, and what stands there: a tree seen as a finite map from its places. RFC 6901, 4.
-use Rattle.std.specs.Prelude.{ℕ, List, [], ◌∷◌, map, ◌==◌, Option, Some, None, option_map, option_and_then, find}
+use Rattle.std.specs.Prelude.{ℕ, List, [], ◌∷◌, ◌++◌, map, Bool, false, ◌==◌, Option, Some, None, option_map, option_and_then, find, if◌then◌else◌, codes, decimal, is_none}
+use Rattle.std.specs.List.{flat_map}
 use Rattle.std.specs.Str.{bytes_eq}
-use Rattle.json_tree.specs.declared.tree.Tree.{Tree, out-Tree}
+use Rattle.json_tree.specs.declared.tree.Tree.{Tree, out-Tree, fold-Tree}
 use Rattle.json_tree.specs.declared.tree.Tree.TheOpen.{Tree-F}
+use Rattle.json_tree.specs.declared.tree.Item.{Item}
 use Rattle.json_tree.specs.declared.tree.Member.{Member}
 use Rattle.json_tree.specs.declared.place.Step.{Step}
 use Rattle.json_tree.specs.declared.place.Step.TheVariants.{Key, At}
@@ -49,3 +51,69 @@ names_in t = None
 -- the names that the object at a place has
 abbrev pub names_at : List Step → Tree → Option (List (List ℕ))
 names_at place t = option_and_then (λ u. names_in (out-Tree u)) (look place t)
+
+-- ---- the version number
+
+-- the one name under which a number that is not whole may stand. -- JSON-LD 1.1, 9.15
+abbrev pub is_version_key : List ℕ → Bool
+is_version_key key = bytes_eq key (codes "@version")
+
+-- the first, or where there is none the other
+abbrev pub or_else : {A : Type 0} → Option A → Option A → Option A
+or_else (Some a) later = Some a
+or_else None later = later
+
+-- the first that there is
+abbrev pub first_of : {A : Type 0} → List (Option A) → Option A
+first_of [] = None
+first_of (o ∷ os) = or_else o (first_of os)
+
+-- a place seen from one step above it
+abbrev pub below : Step → Option (List Step) → Option (List Step)
+below step place = option_map (λ steps. step ∷ steps) place
+
+-- one level, with each value inside already seen as its first misplaced version number; `named` says
+-- whether the value is that of a member `@version`
+abbrev pub misplaced_step : Tree-F (Bool → Option (List Step)) → Bool → Option (List Step)
+misplaced_step Tree-F.Null named = None
+misplaced_step (Tree-F.Bool b) named = None
+misplaced_step (Tree-F.Whole z) named = None
+misplaced_step Tree-F.Version named = if named then None else Some []
+misplaced_step (Tree-F.Text t) named = None
+misplaced_step (Tree-F.List items) named = first_of (map (λ i. below (At i.at) (i.value false)) items)
+misplaced_step (Tree-F.Object members) named = first_of (map (λ m. below (Key m.key) (m.value (is_version_key m.key))) members)
+
+abbrev pub misplaced : Tree → Bool → Option (List Step)
+misplaced = fold-Tree (Bool → Option (List Step)) misplaced_step
+
+-- the first place in a list's elements, and in an object's members
+abbrev pub first_in_items : List (Item Tree) → Option (List Step)
+first_in_items items = first_of (map (λ i. below (At i.at) (misplaced i.value false)) items)
+
+abbrev pub first_in_members : List (Member Tree) → Option (List Step)
+first_in_members members = first_of (map (λ m. below (Key m.key) (misplaced m.value (is_version_key m.key))) members)
+
+-- The first place of a `Version` that is not the value of a member `@version`: elements in their order,
+-- and members in theirs, which is the byte order of their names.
+abbrev pub first_misplaced : Tree → Option (List Step)
+first_misplaced t = misplaced t false
+
+-- Whether `Version` stands only as the value of a member `@version`.
+abbrev pub is_placed : Tree → Bool
+is_placed t = is_none (first_misplaced t)
+
+-- ---- JSON Pointer
+
+-- `~` is written `~0` and `/` is written `~1`. -- RFC 6901, section 3
+abbrev pub escaped : ℕ → List ℕ
+escaped c = if c == 126 then codes "~0" else (if c == 47 then codes "~1" else c ∷ [])
+
+-- a step as a reference token: a name with its escapes, or an index in decimal. -- RFC 6901, section 4
+abbrev pub token_of : Step → List ℕ
+token_of (Key key) = flat_map escaped key
+token_of (At at) = decimal at
+
+-- The JSON Pointer of a place: each token after a `/`.
+abbrev pub pointer_of : List Step → List ℕ
+pointer_of [] = []
+pointer_of (step ∷ steps) = 47 ∷ (token_of step ++ pointer_of steps)

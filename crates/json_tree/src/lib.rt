@@ -7,7 +7,11 @@
 #![tactic(auto)]
 
 mod looking;
+mod misplaced;
+mod nesting;
 mod place;
+mod pointer;
+mod printing;
 mod reading;
 #[cfg(test)]
 mod tests;
@@ -16,5 +20,7 @@ mod tree;
 pub use base_types::{Items, Memory, Sequence, Text};
 pub use looking::member;
 pub use place::{Place, Step};
+pub use pointer::pointer_text;
+pub use printing::{VERSION, print};
 pub use reading::read;
 pub use tree::{Item, Member, Tree, TreeFault};

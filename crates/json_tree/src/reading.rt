@@ -1,27 +1,41 @@
 ghost use Rattle.std.specs.Prelude.{◌≡◌, true, IfOk};
-ghost use Rattle.serde_json.specs.View.{view, items_view, members_view};
-ghost use Rattle.json_tree.specs.Trees.{is_lawful};
-ghost use Rattle.json_tree.specs.Reads.{Reads, IsTreeOf, AreElementsOf, AreEntriesOf};
+ghost use Rattle.serde_json.specs.Data.{number as as_number};
+ghost use Rattle.serde_json.specs.View.{view, number_view, items_view, members_view};
+ghost use Rattle.json_tree.specs.Trees.{tree_of, is_lawful, is_in_range};
+ghost use Rattle.json_tree.specs.Places.{is_placed};
+ghost use Rattle.json_tree.specs.Reads.{Reads, ReadsTree, IsTreeOf, AreElementsOf, AreEntriesOf};
 
+use crate::misplaced::first_misplaced;
+use crate::nesting::is_within;
 use crate::tree::{Item, Member, Tree, TreeFault};
 use base_types::{Items, Memory, Text};
-use serde_json::{Map, Value};
+use serde_json::{Map, Number, Value};
 use std::alloc::Global;
+
+/// The deepest nesting that is read.
+const NESTING_LIMIT: u64 = 100;
 
 /// The tree that a JSON text spells. RFC 8259.
 ///
 /// Elements of a list are numbered from 0, members of an object stand in the byte order of their
-/// names, and of members with one name the last counts.
+/// names, and of members with one name the last counts. A number is whole where it is spelled without
+/// fraction and exponent, is not `-0`, and lies from -2^63 to 2^64 - 1. One that is not is read as the
+/// value of a member `@version` alone, as `Version`.
 ///
 /// # Errors
 ///
-/// `NotJson` where the bytes are not UTF-8 or no JSON text, which is so past a nesting of 127 too.
+/// - `NotJson` where the bytes are not UTF-8 or no JSON text, which is so past a nesting of 127 too.
+/// - `TooDeep` where the text nests more than 100 deep; the root has nesting 1.
+/// - `NotWhole` with the first place of a number that is not whole: elements in their order, members
+///   in the byte order of their names.
 pub fn read(alloc: Global, bytes: &[u8]) -> Result<Tree, TreeFault>
     ensures outcome { Reads bytes.now result }
     ensures lawful { IfOk result (λ t. is_lawful t ≡ true) }
+    ensures in_range { IfOk result (λ t. is_in_range t ≡ true) }
+    ensures placed { IfOk result (λ t. is_placed t ≡ true) }
 {
     match Value::from_slice(alloc, bytes) {
-        Ok(value) => Ok(tree_from(alloc, &value)?),
+        Ok(value) => read_value(alloc, &value),
         Err(error) => {
             if error.is_memory() {
                 Err(TreeFault::Memory)
@@ -32,6 +46,36 @@ pub fn read(alloc: Global, bytes: &[u8]) -> Result<Tree, TreeFault>
     }
 }
 
+/// The tree of a value, where it is one that is read. The nesting comes first, so no later step goes
+/// deeper.
+fn read_value(alloc: Global, value: &Value) -> Result<Tree, TreeFault>
+    ensures outcome { ReadsTree (tree_of (view value.now)) result }
+    ensures lawful { IfOk result (λ t. is_lawful t ≡ true) }
+    ensures in_range { IfOk result (λ t. is_in_range t ≡ true) }
+{
+    if !is_within(value, NESTING_LIMIT) {
+        return Err(TreeFault::TooDeep);
+    }
+    let tree = tree_from(alloc, value)?;
+    match first_misplaced(alloc, &tree)? {
+        Some(place) => Err(TreeFault::NotWhole(place)),
+        None => Ok(tree),
+    }
+}
+
+/// A whole number where the reader has an integer of 64 bits, and otherwise a version number.
+fn number_from(number: &Number) -> Tree
+    ensures { IsTreeOf (as_number (number_view number.now)) result }
+{
+    if let Some(n) = number.as_u64() {
+        return Tree::Whole(i128::from(n));
+    }
+    match number.as_i64() {
+        Some(n) => Tree::Whole(i128::from(n)),
+        None => Tree::Version,
+    }
+}
+
 #[cycle(tree_from)]
 fn tree_from(alloc: Global, value: &Value) -> Result<Tree, Memory>
     ensures { IfOk result (IsTreeOf (view value.now)) }
@@ -39,7 +83,7 @@ fn tree_from(alloc: Global, value: &Value) -> Result<Tree, Memory>
     match value {
         Value::Null => Ok(Tree::Null),
         Value::Bool(b) => Ok(Tree::Bool(*b)),
-        Value::Number(_) => Ok(Tree::Number),
+        Value::Number(number) => Ok(number_from(number)),
         Value::String(text) => Ok(Tree::Text(Text::from_str(alloc, text.as_str())?)),
         Value::Array(items) => Ok(Tree::List(elements_from(alloc, items.as_slice())?)),
         Value::Object(members) => Ok(Tree::Object(members_from(alloc, members)?)),

@@ -1,76 +1,176 @@
 //! Documents and the trees that RFC 8259 gives them, by hand. Trees are compared as `Debug` shows them.
-use crate::{Tree, TreeFault, member, read};
+use crate::{Item, Items, Tree, TreeFault, member, pointer_text, print, read};
 use std::alloc::Global;
 use std::test::Fail;
 
-/// Each document with the tree that it spells, or nothing where it is no JSON text.
-const DOCUMENTS: [(&[u8], Option<&str>); 16] = [
-    (b"null", Some("Null")),
-    (b" true ", Some("Bool(true)")),
-    (b"false", Some("Bool(false)")),
-    (b"-12.5e3", Some("Number")),
-    (b"\"a\\u0062\\n\"", Some("Text(Text { text: \"ab\\n\" })")),
-    (b"\"\xc3\xa9\"", Some("Text(Text { text: \"\u{e9}\" })")),
-    (b"[]", Some("List(Items { items: [] })")),
+/// Each document with the tree that it spells, or with the fault and the place that it carries.
+const DOCUMENTS: [(&str, &str); 41] = [
+    ("null", "Null"),
+    (" true ", "Bool(true)"),
+    ("false", "Bool(false)"),
+    ("\"a\\u0062\\n\"", "Text(Text { text: \"ab\\n\" })"),
+    ("\"\u{e9}\"", "Text(Text { text: \"\u{e9}\" })"),
+    ("[]", "List(Items { items: [] })"),
     (
-        b"[null,[0],false]",
-        Some(
-            "List(Items { items: [Item { at: 0, value: Null }, Item { at: 1, value: List(Items { items: [Item { at: 0, value: Number }] }) }, Item { at: 2, value: Bool(false) }] })",
-        ),
+        "[null,[0],false]",
+        "List(Items { items: [Item { at: 0, value: Null }, Item { at: 1, value: List(Items { items: [Item { at: 0, value: Whole(0) }] }) }, Item { at: 2, value: Bool(false) }] })",
     ),
     (
-        b"{\"b\":1,\"a\":null}",
-        Some(
-            "Object(Items { items: [Member { key: Text { text: \"a\" }, value: Null }, Member { key: Text { text: \"b\" }, value: Number }] })",
-        ),
+        "{\"b\":1,\"a\":null}",
+        "Object(Items { items: [Member { key: Text { text: \"a\" }, value: Null }, Member { key: Text { text: \"b\" }, value: Whole(1) }] })",
     ),
     (
-        b"{\"a\":1,\"a\":true}",
-        Some("Object(Items { items: [Member { key: Text { text: \"a\" }, value: Bool(true) }] })"),
+        "{\"a\":1.5,\"a\":true}",
+        "Object(Items { items: [Member { key: Text { text: \"a\" }, value: Bool(true) }] })",
     ),
-    (b"", None),
-    (b"nul", None),
-    (b"[1,]", None),
-    (b"1 2", None),
-    (b"\"\xff\"", None),
-    (b"{a:1}", None),
+    ("", "NotJson"),
+    ("nul", "NotJson"),
+    ("[1,]", "NotJson"),
+    ("1 2", "NotJson"),
+    ("{a:1}", "NotJson"),
+    // Numbers. The reader gives `-0` as a float, and has none for what is too great for one.
+    ("18446744073709551615", "Whole(18446744073709551615)"),
+    ("18446744073709551616", "NotWhole "),
+    ("-9223372036854775808", "Whole(-9223372036854775808)"),
+    ("-9223372036854775809", "NotWhole "),
+    ("9223372036854775808", "Whole(9223372036854775808)"),
+    ("-1", "Whole(-1)"),
+    ("-0", "NotWhole "),
+    ("1.0", "NotWhole "),
+    ("1e0", "NotWhole "),
+    ("-12.5e3", "NotWhole "),
+    ("1e400", "NotJson"),
+    // The version number.
+    (
+        "{\"@version\":1.1}",
+        "Object(Items { items: [Member { key: Text { text: \"@version\" }, value: Version }] })",
+    ),
+    (
+        "{\"@version\":1}",
+        "Object(Items { items: [Member { key: Text { text: \"@version\" }, value: Whole(1) }] })",
+    ),
+    ("{\"@version\":[1.1]}", "NotWhole /@version/0"),
+    ("{\"@version\":{\"v\":1.1}}", "NotWhole /@version/v"),
+    ("{\"version\":1.1}", "NotWhole /version"),
+    ("[1.1]", "NotWhole /0"),
+    // The first of two places, and the one that is misplaced.
+    ("{\"b\":1.5,\"a\":[1,2.5,3.5]}", "NotWhole /a/1"),
+    ("[[],[7,1.5],1.5]", "NotWhole /1/1"),
+    ("{\"@version\":1.1,\"a\":1.1}", "NotWhole /a"),
+    ("{\"a\":{\"z\":0.5},\"a b\":0.5,\"Z\":0}", "NotWhole /a/z"),
+    // The examples of RFC 6901, section 5, and what needs both escapes.
+    ("{\"a/b\":0.5}", "NotWhole /a~1b"),
+    ("{\"m~n\":0.5}", "NotWhole /m~0n"),
+    ("{\"\":0.5}", "NotWhole /"),
+    ("{\"k\\\"l\":0.5}", "NotWhole /k\"l"),
+    ("{\"~1/\":[0,{\"\u{e9}\":0.5}]}", "NotWhole /~01~1/1/\u{e9}"),
+    ("[0,1,2,3,4,5,6,7,8,9,0.5]", "NotWhole /10"),
 ];
+
+/// The tree, or the fault and the pointer to its place.
+fn outcome(alloc: Global, bytes: &[u8]) -> Result<String, Fail> {
+    match read(alloc, bytes) {
+        Ok(tree) => Ok(format!(in alloc; "{tree:?}")?),
+        Err(TreeFault::NotWhole(place)) => {
+            let pointer = pointer_text(alloc, &place)?;
+            Ok(format!(in alloc; "NotWhole {}", pointer.as_str())?)
+        }
+        Err(fault) => Ok(format!(in alloc; "{fault:?}")?),
+    }
+}
 
 #[test]
 fn documents_read_as_their_trees(rt: HostRuntime) -> Result<(), Fail> {
-    for (bytes, expected) in DOCUMENTS {
-        match (read(rt.alloc(), bytes), expected) {
-            (Ok(tree), Some(shown)) => {
-                let text = format!(in rt.alloc(); "{tree:?}")?;
-                assert_eq!(rt; text.as_str(), shown);
-            }
-            (Err(fault), None) => assert_eq!(rt; fault, TreeFault::NotJson),
-            (_, _) => assert!(rt; false, "one of them is read and the other is not"),
-        }
+    for (text, expected) in DOCUMENTS {
+        let shown = outcome(rt.alloc(), text.as_bytes())?;
+        assert_eq!(rt; shown.as_str(), expected, "at {text}");
     }
+    assert_eq!(rt; outcome(rt.alloc(), b"\"\xff\"")?.as_str(), "NotJson");
     Ok(())
 }
 
-fn nested(alloc: Global, depth: usize) -> Result<String, Fail> {
+/// So many times `open`, then `inside`, and as often `close`.
+fn nested(
+    alloc: Global,
+    depth: usize,
+    open: &str,
+    inside: &str,
+    close: &str,
+) -> Result<String, Fail> {
     let mut text = String::new(alloc);
     for _ in 0..depth {
-        text.push('[')?;
+        text.push_str(open)?;
     }
+    text.push_str(inside)?;
     for _ in 0..depth {
-        text.push(']')?;
+        text.push_str(close)?;
     }
     Ok(text)
 }
 
 #[test]
-fn a_nesting_of_127_is_read_and_no_more(rt: HostRuntime) -> Result<(), Fail> {
-    let deep = nested(rt.alloc(), 127)?;
-    assert!(rt; read(rt.alloc(), deep.as_bytes()).is_ok());
-    let too_deep = nested(rt.alloc(), 128)?;
+fn a_nesting_of_100_is_read_and_no_more(rt: HostRuntime) -> Result<(), Fail> {
+    for (depth, inside, expected) in [
+        (100usize, "7", ""),
+        (100, "[]", "TooDeep"),
+        (101, "", "TooDeep"),
+        (101, "0.5", "TooDeep"),
+        (127, "", "TooDeep"),
+        (128, "", "NotJson"),
+    ] {
+        let lists = nested(rt.alloc(), depth, "[", inside, "]")?;
+        let shown = outcome(rt.alloc(), lists.as_bytes())?;
+        if expected.is_empty() {
+            assert!(rt; shown.as_str().starts_with("List("), "at {depth}");
+            let printed = print(rt.alloc(), &read(rt.alloc(), lists.as_bytes())?)?;
+            assert_eq!(rt; printed.as_slice(), lists.as_bytes(), "at {depth}");
+        } else {
+            assert_eq!(rt; shown.as_str(), expected, "at {depth} {inside}");
+        }
+    }
+    let objects = nested(rt.alloc(), 100, "{\"a\":", "{}", "}")?;
     assert_eq!(rt;
-        read(rt.alloc(), too_deep.as_bytes()).err(),
-        Some(TreeFault::NotJson)
+        outcome(rt.alloc(), objects.as_bytes())?.as_str(),
+        "TooDeep"
     );
+    Ok(())
+}
+
+/// Each document with its compact text.
+const PRINTED: [(&str, &str); 7] = [
+    ("null", "null"),
+    (" [ true , false ] ", "[true,false]"),
+    ("{ \"b\" : 1 , \"a\" : {} }", "{\"a\":{},\"b\":1}"),
+    (
+        "[18446744073709551615,-9223372036854775808,0]",
+        "[18446744073709551615,-9223372036854775808,0]",
+    ),
+    ("{\"@version\":1.10}", "{\"@version\":1.1}"),
+    (
+        "\"\\u00e9\\/\\u0001\\b\\\"\\\\\"",
+        "\"\u{e9}/\\u0001\\b\\\"\\\\\"",
+    ),
+    ("{\"\\n\":[[],\"\"]}", "{\"\\n\":[[],\"\"]}"),
+];
+
+#[test]
+fn trees_print_as_compact_text(rt: HostRuntime) -> Result<(), Fail> {
+    for (text, expected) in PRINTED {
+        let printed = print(rt.alloc(), &read(rt.alloc(), text.as_bytes())?)?;
+        assert_eq!(rt; printed.as_slice(), expected.as_bytes(), "at {text}");
+    }
+    // Of what a selection leaves of a list the indexes are not printed.
+    let mut items = Items::new(rt.alloc());
+    items.push(Item {
+        at: 3,
+        value: Tree::Whole(-2),
+    })?;
+    items.push(Item {
+        at: 8,
+        value: Tree::Version,
+    })?;
+    let printed = print(rt.alloc(), &Tree::List(items))?;
+    assert_eq!(rt; printed.as_slice(), b"[-2,1.1]".as_slice());
     Ok(())
 }
 

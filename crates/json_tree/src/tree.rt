@@ -1,14 +1,19 @@
 ghost use Rattle.std.specs.Prelude.{◌≡◌, true, IfSome};
 ghost use Rattle.std.specs.Option.{option_copied};
 
+use crate::place::Place;
 use base_types::{Items, Memory, Text};
+use std::alloc::AllocError;
 
-/// A JSON value. Numbers of every form are one variant.
+/// A JSON value whose numbers are whole.
 #[derive(Debug, Drop)]
 pub enum Tree {
     Null,
     Bool(bool),
-    Number,
+    /// A whole number; those that are read lie from -2^63 to 2^64 - 1.
+    Whole(i128),
+    /// The version number of a context, 1.1: the one number that need not be whole.
+    Version,
     Text(Text),
     List(Items<Item>),
     Object(Items<Member>),
@@ -28,10 +33,15 @@ pub struct Member<T = Tree> {
     pub value: T,
 }
 
-#[derive(Clone, Copy, Debug, PartialEq, Eq)]
+/// Why bytes give no tree.
+#[derive(Debug, Drop)]
 pub enum TreeFault {
     /// The bytes are not UTF-8, or no JSON text.
     NotJson,
+    /// A number that is not whole stands at this place, and at none before it.
+    NotWhole(Place),
+    /// The text nests more than 100 deep.
+    TooDeep,
     /// Want of memory.
     Memory,
 }
@@ -43,6 +53,17 @@ impl From<Memory> for TreeFault {
     ghost from_gives = { λ _ e. e ≡ fault.Memory };
 
     fn from(_error: Memory) -> TreeFault {
+        TreeFault::Memory
+    }
+}
+
+impl From<AllocError> for TreeFault {
+    ghost use Rattle.std.specs.Prelude.{◌≡◌};
+    ghost use Rattle.json_tree.specs.declared.tree.TreeFault.TheVariants as fault;
+
+    ghost from_gives = { λ _ e. e ≡ fault.Memory };
+
+    fn from(_error: AllocError) -> TreeFault {
         TreeFault::Memory
     }
 }

@@ -1,9 +1,12 @@
 -- Which reply a run gives, and how it is delivered.
-use Rattle.std.specs.Prelude.{◌≡◌, ◌≤◌, ◌⊎◌, ℕ, List, [], ◌∷◌, Option, codes, length}
+use Rattle.std.specs.Prelude.{◌≡◌, ◌≤◌, ◌⊎◌, ℕ, List, [], ◌∷◌, Option, Ok, Err, codes, length}
 use Rattle.base_types.specs.Counts.{HasRisen}
 use Rattle.vc_io.specs.Bytes.{IsAllOf, IsMoreThan, Wrote, WrotePrefix}
 use Rattle.json_tree.specs.declared.tree.Tree.{Tree}
-use Rattle.json_tree.specs.Reads.{Spells}
+use Rattle.json_tree.specs.declared.tree.TreeFault.TheVariants as fault
+use Rattle.json_tree.specs.declared.place.Place.{Place}
+use Rattle.json_tree.specs.Places.{pointer_of}
+use Rattle.json_tree.specs.Reads.{Reads}
 use Rattle.nquads.specs.Terms.{Blank, Statement}
 use Rattle.nquads.specs.Lines.{canonical_text}
 use Rattle.ld_rdf.specs.Flat.{IsFlat, IsFlatMeaning}
@@ -11,7 +14,7 @@ use Rattle.vc_cli.specs.declared.reply.Reply.{Reply}
 use Rattle.vc_cli.specs.declared.reply.Reply.TheVariants as reply
 use Rattle.vc_cli.specs.declared.status.Status.{Status}
 use Rattle.vc_cli.specs.declared.status.Status.TheVariants as status
-use Rattle.vc_cli.specs.Replies.{bytes_of, status_of}
+use Rattle.vc_cli.specs.Replies.{bytes_of, status_of, not_whole_line}
 
 -- the words are the one word `statements`
 abbrev pub IsStatements : List (List ℕ) → Type 0
@@ -39,9 +42,11 @@ pub record IsInput (left : Option (List ℕ)) (bytes : List ℕ) : Type 0 where
 -- the reply is the answer to a request with these bytes; the cases exclude one another, and want of
 -- memory is free
 abbrev pub AnswersBytes : List ℕ → Reply → Type 0
-AnswersBytes bytes (reply.Statements text) = (request : Tree) × Spells bytes request × IsFlat request × IsTextOf request text
-AnswersBytes bytes reply.NotBuilt = (request : Tree) × Spells bytes request × (IsFlat request → ⊥)
-AnswersBytes bytes reply.NotJson = (request : Tree) → Spells bytes request → ⊥
+AnswersBytes bytes (reply.Statements text) = (request : Tree) × Reads bytes (Ok request) × IsFlat request × IsTextOf request text
+AnswersBytes bytes reply.NotBuilt = (request : Tree) × Reads bytes (Ok request) × (IsFlat request → ⊥)
+AnswersBytes bytes reply.NotJson = Reads bytes (Err fault.NotJson)
+AnswersBytes bytes reply.TreeTooDeep = Reads bytes (Err fault.TooDeep)
+AnswersBytes bytes (reply.NotWhole line) = (place : Place) × Reads bytes (Err (fault.NotWhole place)) × (line ≡ not_whole_line (pointer_of place.steps))
 AnswersBytes bytes reply.Memory = Unit {0}
 AnswersBytes bytes reply.Usage = ⊥
 AnswersBytes bytes reply.TooLong = ⊥
@@ -54,6 +59,8 @@ AnswersRequest left before after reply.ReadFault = HasRisen before after
 AnswersRequest left before after reply.Memory = Unit {0}
 AnswersRequest left before after reply.Usage = ⊥
 AnswersRequest left before after reply.NotJson = (bytes : List ℕ) × IsInput left bytes × AnswersBytes bytes reply.NotJson
+AnswersRequest left before after reply.TreeTooDeep = (bytes : List ℕ) × IsInput left bytes × AnswersBytes bytes reply.TreeTooDeep
+AnswersRequest left before after (reply.NotWhole line) = (bytes : List ℕ) × IsInput left bytes × AnswersBytes bytes (reply.NotWhole line)
 AnswersRequest left before after reply.NotBuilt = (bytes : List ℕ) × IsInput left bytes × AnswersBytes bytes reply.NotBuilt
 AnswersRequest left before after (reply.Statements text) = (bytes : List ℕ) × IsInput left bytes × AnswersBytes bytes (reply.Statements text)
 

@@ -1,5 +1,6 @@
 -- The bytes of each reply, and the status that goes with it.
 use Rattle.std.specs.Prelude.{ℕ, List, [], ◌∷◌, ◌++◌, codes}
+use Rattle.json_tree.specs.Prints.{json_string}
 use Rattle.vc_cli.specs.declared.reply.Reply.{Reply}
 use Rattle.vc_cli.specs.declared.reply.Reply.TheVariants as reply
 use Rattle.vc_cli.specs.declared.status.Status.{Status}
@@ -25,12 +26,22 @@ named name = quoted (codes "name") ++ (58 ∷ quoted name)
 abbrev pub limited : List ℕ → List ℕ
 limited digits = quoted (codes "limit") ++ (58 ∷ digits)
 
+-- the field `"place":` and a place's text as a JSON string
+abbrev pub placed : List ℕ → List ℕ
+placed text = quoted (codes "place") ++ (58 ∷ json_string text)
+
+-- the refusal of a number that is not whole, at the place with this text
+abbrev pub not_whole_line : List ℕ → List ℕ
+not_whole_line text = refused (named (codes "NotWhole") ++ (44 ∷ placed text))
+
 -- the bytes of a reply
 abbrev pub bytes_of : Reply → List ℕ
 bytes_of (reply.Statements text) = text
 bytes_of reply.Usage = usage_line
 bytes_of reply.TooLong = refused (limited (codes "8388608") ++ (44 ∷ named (codes "TooLong")))
 bytes_of reply.NotJson = refused (named (codes "NotJson"))
+bytes_of reply.TreeTooDeep = refused (limited (codes "100") ++ (44 ∷ named (codes "TreeTooDeep")))
+bytes_of (reply.NotWhole line) = line
 bytes_of reply.NotBuilt = refused (named (codes "NotBuilt"))
 bytes_of reply.ReadFault = refused (named (codes "ReadFault"))
 bytes_of reply.Memory = refused (named (codes "Memory"))
@@ -41,6 +52,8 @@ status_of (reply.Statements text) = status.Done
 status_of reply.Usage = status.Usage
 status_of reply.TooLong = status.Input
 status_of reply.NotJson = status.Input
+status_of reply.TreeTooDeep = status.Input
+status_of (reply.NotWhole line) = status.Input
 status_of reply.NotBuilt = status.Input
 status_of reply.ReadFault = status.ReadFault
 status_of reply.Memory = status.Memory

@@ -15,6 +15,10 @@ pub enum Reply {
     TooLong,
     /// The input is no JSON text.
     NotJson,
+    /// The input nests deeper than is read.
+    TreeTooDeep,
+    /// A number of the input is not whole. These are the bytes of the refusal, which carries its place.
+    NotWhole(Sequence<u8>),
     /// The request is none that this program answers.
     NotBuilt,
     /// The source failed.
@@ -24,7 +28,7 @@ pub enum Reply {
 }
 
 impl Reply {
-    /// The bytes that are written. No refusal takes memory.
+    /// The bytes that are written. It takes no memory.
     pub fn as_bytes(&self) -> &[u8]
         ensures { result.now ≡ bytes_of self.now }
     {
@@ -33,6 +37,8 @@ impl Reply {
             Reply::Usage => b"usage: vc_cli statements\n",
             Reply::TooLong => b"{\"refused\":{\"limit\":8388608,\"name\":\"TooLong\"}}\n",
             Reply::NotJson => b"{\"refused\":{\"name\":\"NotJson\"}}\n",
+            Reply::TreeTooDeep => b"{\"refused\":{\"limit\":100,\"name\":\"TreeTooDeep\"}}\n",
+            Reply::NotWhole(line) => line.as_slice(),
             Reply::NotBuilt => b"{\"refused\":{\"name\":\"NotBuilt\"}}\n",
             Reply::ReadFault => b"{\"refused\":{\"name\":\"ReadFault\"}}\n",
             Reply::Memory => b"{\"refused\":{\"name\":\"Memory\"}}\n",
@@ -46,7 +52,8 @@ impl Reply {
         match self {
             Reply::Statements(_) => Status::Done,
             Reply::Usage => Status::Usage,
-            Reply::TooLong | Reply::NotJson | Reply::NotBuilt => Status::Input,
+            Reply::TooLong | Reply::NotJson | Reply::TreeTooDeep => Status::Input,
+            Reply::NotWhole(_) | Reply::NotBuilt => Status::Input,
             Reply::ReadFault => Status::ReadFault,
             Reply::Memory => Status::Memory,
         }

@@ -1,10 +1,14 @@
-ghost use Rattle.std.specs.Prelude.{◌≡◌, ◌↔◌, IsTrue, Ok, Err};
+ghost use Rattle.std.specs.Prelude.{◌≡◌, ◌↔◌, ℕ, List, IsTrue, IfOk, Ok, Err};
+ghost use Rattle.json_tree.specs.declared.tree.TreeFault.TheVariants as fault;
+ghost use Rattle.json_tree.specs.Places.{pointer_of};
+ghost use Rattle.json_tree.specs.Reads.{Reads};
+ghost use Rattle.vc_cli.specs.Replies.{not_whole_line};
 ghost use Rattle.vc_cli.specs.declared.reply.Reply.{Reply as AnyReply};
 ghost use Rattle.vc_cli.specs.Answers.{Answers, AnswersRequest, AnswersBytes, Delivers, IsStatements};
 
 use crate::reply::Reply;
 use crate::status::Status;
-use json_tree::{Text, TreeFault};
+use json_tree::{Place, Text, Tree, TreeFault};
 use ld_rdf::FlatFault;
 use nquads::{Memory, Sequence, TextLabels};
 use std::alloc::Global;
@@ -66,6 +70,8 @@ fn statements_of(alloc: Global, bytes: &[u8]) -> Reply
     let request = match json_tree::read(alloc, bytes) {
         Ok(request) => request,
         Err(TreeFault::NotJson) => return Reply::NotJson,
+        Err(TreeFault::TooDeep) => return Reply::TreeTooDeep,
+        Err(TreeFault::NotWhole(place)) => return not_whole(alloc, &place),
         Err(TreeFault::Memory) => return Reply::Memory,
     };
     let quads = match ld_rdf::flat(alloc, &request) {
@@ -77,6 +83,28 @@ fn statements_of(alloc: Global, bytes: &[u8]) -> Reply
         Ok(text) => Reply::Statements(Sequence::from_vec(text)),
         Err(Memory) => Reply::Memory,
     }
+}
+
+/// The refusal of a number that is not whole.
+fn not_whole(alloc: Global, place: &Place) -> Reply
+    ensures { (bytes : List ℕ) → Reads bytes (Err (fault.NotWhole place.now)) → AnswersBytes bytes result }
+{
+    match not_whole_line(alloc, place) {
+        Ok(line) => Reply::NotWhole(Sequence::from_vec(line)),
+        Err(Memory) => Reply::Memory,
+    }
+}
+
+/// The bytes of that refusal: the place is written as its JSON Pointer.
+fn not_whole_line(alloc: Global, place: &Place) -> Result<Vec<u8>, Memory>
+    ensures { IfOk result (λ line. line.items ≡ not_whole_line (pointer_of place.now.steps)) }
+{
+    let pointer = Tree::Text(json_tree::pointer_text(alloc, place)?);
+    let text = json_tree::print(alloc, &pointer)?;
+    let mut line = Vec::from_slice(alloc, b"{\"refused\":{\"name\":\"NotWhole\",\"place\":")?;
+    line.extend_from_slice(text.as_slice())?;
+    line.extend_from_slice(b"}}\n")?;
+    Ok(line)
 }
 
 /// Writes a reply, and says how the run ended. It takes no memory.

@@ -33,6 +33,22 @@ const THREE: &str =
 const TWO_LINES: &str =
     "<https://ex.org/a> <https://ex.org/y> \"2\" .\n<https://ex.org/a> <https://ex.org/z> \"1\" .\n";
 
+/// The same with a number that is not whole.
+const FRACTION: &str =
+    "{\"contexts\":{\"https://ex.org/n\":{\"@context\":{\"name\":\"https://schema.org/name\"}}},\"document\":{\"@context\":\"https://ex.org/n\",\"@id\":\"https://ex.org/a\",\"n\":1.0}}";
+
+const FRACTION_PLACE: &str = "{\"refused\":{\"name\":\"NotWhole\",\"place\":\"/document/n\"}}\n";
+
+/// A number too great, and a name that is escaped in the pointer and in the text.
+const TOO_GREAT: &str = "{\"document\":{\"a\\n~\":[0,18446744073709551616]}}";
+
+const TOO_GREAT_PLACE: &str =
+    "{\"refused\":{\"name\":\"NotWhole\",\"place\":\"/document/a\\n~0/1\"}}\n";
+
+const ROOT_PLACE: &str = "{\"refused\":{\"name\":\"NotWhole\",\"place\":\"\"}}\n";
+
+const TREE_TOO_DEEP: &str = "{\"refused\":{\"limit\":100,\"name\":\"TreeTooDeep\"}}\n";
+
 const USAGE: &str = "usage: vc_cli statements\n";
 
 const NOT_BUILT: &str = "{\"refused\":{\"name\":\"NotBuilt\"}}\n";
@@ -78,13 +94,17 @@ fn outcome(
 
 #[test]
 fn answers_requests(rt: HostRuntime) -> Result<(), Fail> {
-    let cases: [(&[u8], Status, &str); 9] = [
+    let cases: [(&[u8], Status, &str); 13] = [
         (REQUEST.as_bytes(), Status::Done, LINE),
         (ESCAPES.as_bytes(), Status::Done, ESCAPED),
         (TWICE.as_bytes(), Status::Done, LINE),
         (THREE.as_bytes(), Status::Done, TWO_LINES),
         (UNKNOWN_TERM.as_bytes(), Status::Input, NOT_BUILT),
         (b"{\"document\":{}}", Status::Input, NOT_BUILT),
+        (b"18446744073709551615", Status::Input, NOT_BUILT),
+        (FRACTION.as_bytes(), Status::Input, FRACTION_PLACE),
+        (TOO_GREAT.as_bytes(), Status::Input, TOO_GREAT_PLACE),
+        (b"1e0", Status::Input, ROOT_PLACE),
         (b"", Status::Input, NOT_JSON),
         (b"\"\xff\"", Status::Input, NOT_JSON),
         (b"{} {}", Status::Input, NOT_JSON),
@@ -94,6 +114,28 @@ fn answers_requests(rt: HostRuntime) -> Result<(), Fail> {
         let ended = outcome(rt.alloc(), &["statements"], input, &NONE)?;
         assert_eq!(rt; ended.0, status, "at {written}");
         assert_eq!(rt; ended.1.as_slice(), written.as_bytes(), "at {written}");
+    }
+    Ok(())
+}
+
+#[test]
+fn refuses_what_nests_too_deep(rt: HostRuntime) -> Result<(), Fail> {
+    for (depth, written) in [
+        (100usize, NOT_BUILT),
+        (101, TREE_TOO_DEEP),
+        (127, TREE_TOO_DEEP),
+        (128, NOT_JSON),
+    ] {
+        let mut input = Vec::new(rt.alloc());
+        for _ in 0..depth {
+            input.push(b'[')?;
+        }
+        for _ in 0..depth {
+            input.push(b']')?;
+        }
+        let ended = outcome(rt.alloc(), &["statements"], input, &NONE)?;
+        assert_eq!(rt; ended.0, Status::Input, "at {depth}");
+        assert_eq!(rt; ended.1.as_slice(), written.as_bytes(), "at {depth}");
     }
     Ok(())
 }

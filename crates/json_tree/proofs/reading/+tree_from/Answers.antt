@@ -3,7 +3,7 @@ use Rattle.json_tree.proofs.reading.+tree_from.Goals as goal
 
 pub members_from-returns : goal.members_from-returns
 members_from-returns t c =
-    entries_made _ _ _ c.loop-name.invariant.read c.in-None.ensures.steps.0 c.iter-name-items.ensures.ordered c.loop-name.invariant.lawful
+    entries_made _ _ _ c.loop-name.invariant.read c.in-None.ensures.steps.0 c.iter-name-items.ensures.ordered c.loop-name.invariant.lawful c.loop-name.invariant.in_range
 
 pub tree_from-returns-in_ok-elements_from-in-Array : goal.tree_from-returns-in_ok-elements_from-in-Array
 tree_from-returns-in_ok-elements_from-in-Array t c =

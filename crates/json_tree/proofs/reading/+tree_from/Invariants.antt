@@ -1,7 +1,7 @@
 use Rattle.std.proofs.Common.{◌≡◌, true, ◌++◌, drop}
 use Rattle.std.specs.List.{list_all}
 use Rattle.serde_json.specs.View.{items_view, members_view}
-use Rattle.json_tree.specs.Trees.{elements_of, entries_of, is_lawful}
+use Rattle.json_tree.specs.Trees.{elements_of, entries_of, is_lawful, is_in_range}
 use Rattle.json_tree.proofs.reading.+tree_from.Given as goal
 
 -- what was read, followed by what is left to read
@@ -10,10 +10,12 @@ invariant-elements_from-loop-item l = record {
   counted : l.at ≡ l.item-index;
   read : elements_of 0 (items_view l.values) ≡ l.elements ++ elements_of l.at (items_view (drop l.item-index l.values));
   lawful : list_all (λ i. is_lawful i.value) l.elements ≡ true;
+  in_range : list_all (λ i. is_in_range i.value) l.elements ≡ true;
 }
 
 abbrev pub invariant-members_from-loop-name : goal.invariant-members_from-loop-name
 invariant-members_from-loop-name l = record {
   read : entries_of (members_view l.map.entries) ≡ l.members ++ entries_of (members_view l.name-iterator);
   lawful : list_all (λ m. is_lawful m.value) l.members ≡ true;
+  in_range : list_all (λ m. is_in_range m.value) l.members ≡ true;
 }

@@ -15,3 +15,6 @@ returns-in-Ok-text_of c =
       c.in-Ok-flat.ensures.ok.0,
       record { meaning = flat.0; means = flat.1; is = c.from_vec.ensures ∙ text_without _ flat.0 _ c.new.ensures (c.in-Ok-text_of.ensures flat.0 (same_from _ _ flat.2)) },
     )
+
+pub returns-in-Err-NotWhole : goal.returns-in-Err-NotWhole
+returns-in-Err-NotWhole c = c.not_whole.ensures c.args.bytes.now (rw c.in-Err-NotWhole.field-0-is at c.in-Err-NotWhole.ensures.outcome)

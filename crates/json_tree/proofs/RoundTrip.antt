@@ -1,0 +1,162 @@
+-- What is printed reads as the tree with its lists renumbered.
+use Rattle.std.proofs.Common.{◌≡◌, ◌≤◌, ℕ, ℤ, suc, ◌+◌, pos, negsuc, true, false, Bool, is_none, List, [], ◌∷◌, map, Some, None, Option, Ok, Global, String, string_bytes, refl, sym, ap, ◌∙◌, arith}
+use Rattle.std.specs.List.{list_any}
+use Rattle.std.specs.Str.{IsUtf8}
+use Rattle.std.proofs.lemmas.Str.{IsUtf8-string_bytes}
+use Rattle.serde_json.specs.Data.{depth, items_depth, members_depth}
+use Rattle.serde_json.specs.Find.{as_integer, of_integer}
+use Rattle.serde_json.specs.View.{view, items_of}
+use Rattle.serde_json.specs.Read as json
+use Rattle.serde_json.specs.Written.{has_float, items_have_float, members_have_float}
+use Rattle.serde_json.specs.declared.value.Value.{Value}
+use Rattle.json_tree.specs.declared.tree.Tree.{Tree}
+use Rattle.json_tree.specs.declared.tree.Tree.TheVariants as v
+use Rattle.json_tree.specs.declared.tree.Item.{Item}
+use Rattle.json_tree.specs.declared.tree.Member.{Member}
+use Rattle.json_tree.specs.declared.place.Step.{Step}
+use Rattle.json_tree.specs.declared.place.Step.TheVariants.{Key, At}
+use Rattle.json_tree.specs.Trees.{tree_of, elements_of, entries_of, element, entry, whole_or_version, greatest, levels_of, nesting_of, nesting_limit, holds_version, numbered, renumbered}
+use Rattle.json_tree.specs.Places.{below, or_else, misplaced, is_placed, is_version_key, first_in_items, first_in_members}
+use Rattle.json_tree.specs.Prints.{data_of, datum, members_data}
+use Rattle.json_tree.specs.Reads.{Reads}
+use Rattle.json_tree.proofs.Induction.{Each, by_cases}
+use Rattle.json_tree.proofs.Depths.{levels_of-tree_of}
+use Rattle.json_tree.proofs.Equations.{holds_version-Null, holds_version-Bool, holds_version-Whole, holds_version-Version, holds_version-Text, holds_version-List, holds_version-Object, data_of-Null, data_of-Bool, data_of-Whole, data_of-Version, data_of-Text, data_of-List, data_of-Object, renumbered-Null, renumbered-Bool, renumbered-Whole, renumbered-Version, renumbered-Text, renumbered-List, renumbered-Object, levels_of-Null, levels_of-Bool, levels_of-Whole, levels_of-Version, levels_of-Text, levels_of-List, levels_of-Object, misplaced-List, misplaced-Object}
+
+-- ---- floats are the version numbers
+
+abbrev HasFloatAsVersion : Tree → Type 0
+HasFloatAsVersion t = has_float (data_of t) ≡ holds_version t
+
+float_items : (is : List (Item Tree)) → Each (λ (i : Item Tree). HasFloatAsVersion i.value) is → items_have_float (items_of (map (λ i. data_of i.value) is)) ≡ list_any (λ i. holds_version i.value) is
+float_items [] e = refl
+float_items (i ∷ is) e = rw (e.0, float_items is e.1) refl
+
+float_members : (ms : List (Member Tree)) → Each (λ (m : Member Tree). HasFloatAsVersion m.value) ms → members_have_float (members_data (map datum ms)) ≡ list_any (λ m. holds_version m.value) ms
+float_members [] e = refl
+float_members (m ∷ ms) e = rw (e.0, float_members ms e.1) refl
+
+float_whole : (z : ℤ) → HasFloatAsVersion (v.Whole z)
+float_whole (pos n) = ap has_float (data_of-Whole (pos n)) ∙ sym (holds_version-Whole (pos n))
+float_whole (negsuc n) = ap has_float (data_of-Whole (negsuc n)) ∙ sym (holds_version-Whole (negsuc n))
+
+pub has_float-data_of : (t : Tree) → has_float (data_of t) ≡ holds_version t
+has_float-data_of = by_cases HasFloatAsVersion record {
+  null = ap has_float data_of-Null ∙ sym holds_version-Null;
+  boolean = λ b. ap has_float (data_of-Bool b) ∙ sym (holds_version-Bool b);
+  whole = float_whole;
+  version = ap has_float data_of-Version ∙ sym holds_version-Version;
+  text = λ s. ap has_float (data_of-Text s) ∙ sym (holds_version-Text s);
+  items = λ is e. ap has_float (data_of-List is) ∙ float_items is e ∙ sym (holds_version-List is);
+  members = λ ms e. ap has_float (data_of-Object ms) ∙ float_members ms e ∙ sym (holds_version-Object ms);
+}
+
+-- ---- the value of a tree is that of the tree renumbered
+
+abbrev ReadsBack : Tree → Type 0
+ReadsBack t = tree_of (data_of t) ≡ renumbered t
+
+whole_back : (z : ℤ) → whole_or_version (as_integer (of_integer z)) ≡ v.Whole z
+whole_back (pos n) = refl
+whole_back (negsuc n) = refl
+
+items_back : (n : ℕ) (is : List (Item Tree)) → Each (λ (i : Item Tree). ReadsBack i.value) is → elements_of n (items_of (map (λ i. data_of i.value) is)) ≡ numbered n (map (λ i. element i.at (renumbered i.value)) is)
+items_back n [] e = refl
+items_back n (i ∷ is) e = rw (e.0, items_back (n + 1) is e.1) refl
+
+members_back : (ms : List (Member Tree)) → Each (λ (m : Member Tree). ReadsBack m.value) ms → entries_of (members_data (map datum ms)) ≡ map (λ m. entry m.key (renumbered m.value)) ms
+members_back [] e = refl
+members_back (m ∷ ms) e = rw (e.0, members_back ms e.1) refl
+
+pub tree_of-data_of : (t : Tree) → tree_of (data_of t) ≡ renumbered t
+tree_of-data_of = by_cases ReadsBack record {
+  null = ap tree_of data_of-Null ∙ sym renumbered-Null;
+  boolean = λ b. ap tree_of (data_of-Bool b) ∙ sym (renumbered-Bool b);
+  whole = λ z. ap tree_of (data_of-Whole z) ∙ whole_back z ∙ sym (renumbered-Whole z);
+  version = ap tree_of data_of-Version ∙ sym renumbered-Version;
+  text = λ s. ap tree_of (data_of-Text s) ∙ sym (renumbered-Text s);
+  items = λ is e. ap tree_of (data_of-List is) ∙ ap v.List (items_back 0 is e) ∙ sym (renumbered-List is);
+  members = λ ms e. ap tree_of (data_of-Object ms) ∙ ap v.Object (members_back ms e) ∙ sym (renumbered-Object ms);
+}
+
+-- ---- the nesting stays
+
+abbrev HasDepth : Tree → Type 0
+HasDepth t = depth (data_of t) ≡ levels_of t
+
+depth_whole : (z : ℤ) → HasDepth (v.Whole z)
+depth_whole z = ap depth (data_of-Whole z) ∙ sym (levels_of-Whole z)
+
+depth_items : (is : List (Item Tree)) → Each (λ (i : Item Tree). HasDepth i.value) is → items_depth (items_of (map (λ i. data_of i.value) is)) ≡ greatest (map (λ i. levels_of i.value) is)
+depth_items [] e = refl
+depth_items (i ∷ is) e = rw (e.0, depth_items is e.1) refl
+
+depth_members : (ms : List (Member Tree)) → Each (λ (m : Member Tree). HasDepth m.value) ms → members_depth (members_data (map datum ms)) ≡ greatest (map (λ m. levels_of m.value) ms)
+depth_members [] e = refl
+depth_members (m ∷ ms) e = rw (e.0, depth_members ms e.1) refl
+
+pub depth-data_of : (t : Tree) → depth (data_of t) ≡ levels_of t
+depth-data_of = by_cases HasDepth record {
+  null = ap depth data_of-Null ∙ sym levels_of-Null;
+  boolean = λ b. ap depth (data_of-Bool b) ∙ sym (levels_of-Bool b);
+  whole = depth_whole;
+  version = ap depth data_of-Version ∙ sym levels_of-Version;
+  text = λ s. ap depth (data_of-Text s) ∙ sym (levels_of-Text s);
+  items = λ is e. ap depth (data_of-List is) ∙ ap suc (depth_items is e) ∙ sym (levels_of-List is);
+  members = λ ms e. ap depth (data_of-Object ms) ∙ ap suc (depth_members ms e) ∙ sym (levels_of-Object ms);
+}
+
+-- ---- what is misplaced in the renumbered tree is misplaced in the tree
+
+abbrev StaysPlaced : Tree → Type 0
+StaysPlaced t = (named : Bool) → misplaced t named ≡ None → misplaced (renumbered t) named ≡ None
+
+none_first : (o later : Option (List Step)) (s : Step) → or_else (below s o) later ≡ None → o ≡ None
+none_first (Some p) later s h = absurd (cc)
+none_first None later s h = refl
+
+none_later : (o later : Option (List Step)) (s : Step) → or_else (below s o) later ≡ None → later ≡ None
+none_later (Some p) later s h = absurd (cc)
+none_later None later s h = h
+
+items_stay : (n : ℕ) (is : List (Item Tree)) → Each (λ (i : Item Tree). StaysPlaced i.value) is → first_in_items is ≡ None → first_in_items (numbered n (map (λ i. element i.at (renumbered i.value)) is)) ≡ None
+items_stay n [] e h = refl
+items_stay n (i ∷ is) e h =
+    let here : misplaced (renumbered i.value) false ≡ None = e.0 false (none_first (misplaced i.value false) (first_in_items is) (At i.at) h) in
+    rw here (items_stay (n + 1) is e.1 (none_later (misplaced i.value false) (first_in_items is) (At i.at) h))
+
+members_stay : (ms : List (Member Tree)) → Each (λ (m : Member Tree). StaysPlaced m.value) ms → first_in_members ms ≡ None → first_in_members (map (λ m. entry m.key (renumbered m.value)) ms) ≡ None
+members_stay [] e h = refl
+members_stay (m ∷ ms) e h =
+    let named : Bool = is_version_key m.key in
+    let here : misplaced (renumbered m.value) (is_version_key m.key) ≡ None = e.0 (is_version_key m.key) (none_first (misplaced m.value (is_version_key m.key)) (first_in_members ms) (Key m.key) h) in
+    rw here (members_stay ms e.1 (none_later (misplaced m.value (is_version_key m.key)) (first_in_members ms) (Key m.key) h))
+
+pub misplaced-renumbered : (t : Tree) (named : Bool) → misplaced t named ≡ None → misplaced (renumbered t) named ≡ None
+misplaced-renumbered = by_cases StaysPlaced record {
+  null = λ named h. ap (λ t. misplaced t named) renumbered-Null ∙ h;
+  boolean = λ b named h. ap (λ t. misplaced t named) (renumbered-Bool b) ∙ h;
+  whole = λ z named h. ap (λ t. misplaced t named) (renumbered-Whole z) ∙ h;
+  version = λ named h. ap (λ t. misplaced t named) renumbered-Version ∙ h;
+  text = λ s named h. ap (λ t. misplaced t named) (renumbered-Text s) ∙ h;
+  items = λ is e named h. ap (λ t. misplaced t named) (renumbered-List is) ∙ misplaced-List _ named ∙ items_stay 0 is e (sym (misplaced-List is named) ∙ h);
+  members = λ ms e named h. ap (λ t. misplaced t named) (renumbered-Object ms) ∙ misplaced-Object _ named ∙ members_stay ms e (sym (misplaced-Object ms named) ∙ h);
+}
+
+-- ---- together
+
+nothing_there : (o : Option (List Step)) → is_none o ≡ true → o ≡ None
+nothing_there (Some p) h = absurd (cc)
+nothing_there None h = refl
+
+pub levels_of-renumbered : (t : Tree) → levels_of (renumbered t) ≡ levels_of t
+levels_of-renumbered t = ap levels_of (sym (tree_of-data_of t)) ∙ levels_of-tree_of (data_of t) ∙ depth-data_of t
+
+pub round_trip : (t : Tree) (value : Value) (text : String Global) (bytes : List ℕ) → bytes ≡ string_bytes text → view value ≡ data_of t → (depth (view value) ≤ json.max_depth → json.read (string_bytes text) ≡ Some (view value)) → nesting_of t ≤ nesting_limit → is_placed t ≡ true → Reads bytes (Ok (renumbered t))
+round_trip t value text bytes same made back shallow placed =
+    let fits : depth (view value) ≤ json.max_depth = rw (made, depth-data_of t) (omega arith) in
+    let spelled : IsUtf8 bytes = rw same (IsUtf8-string_bytes text) in (
+      record { value = data_of t; spelled = (spelled, ap json.read same ∙ back fits ∙ ap Some made); is = sym (tree_of-data_of t) },
+      rw (levels_of-renumbered t) shallow,
+      misplaced-renumbered t false (nothing_there (misplaced t false) placed),
+    )
