@@ -18,17 +18,20 @@ pub fn pointer_text(alloc: Global, place: &Place) -> Result<Text, Memory>
     let mut out = Text::new(alloc);
     for step in place.steps.as_slice() {
         out.push_str("/")?;
-        push_token(&mut out, step)?;
+        push_token(alloc, &mut out, step)?;
     }
     Ok(out)
 }
 
-fn push_token(out: &mut Text, step: &Step) -> Result<(), Memory>
+fn push_token(alloc: Global, out: &mut Text, step: &Step) -> Result<(), Memory>
     ensures { OnOk result (out.new ≡ out.old ++ token_of step.now) }
 {
     match step {
         Step::Key(key) => push_escaped(out, key.as_str()),
-        Step::At(at) => out.push_str(itoa::Buffer::new().format(*at)),
+        Step::At(at) => {
+            let digits = at.to_string(alloc)?;
+            out.push_str(digits.as_str())
+        }
     }
 }
 
