@@ -1,0 +1,6 @@
+pub mod Levels
+pub mod Each
+pub mod Five
+pub mod Rise
+pub mod Inverses
+pub mod Spelled

@@ -1,0 +1,6 @@
+use Rattle.proof_cbor.proofs.Spelled.{base_result}
+use Rattle.proof_cbor.proofs.decoding.read_base.Goals as goal
+
+pub returns-clause-found : goal.returns-clause-found
+returns-clause-found c =
+    base_result c.args.text.now c.in_ok-bytes.bytes.items c.in_ok-item.item c.base_in.result c.in_ok-bytes.ensures.text (rw c.deref.ensures.value at c.in_ok-item.ensures) c.base_in.ensures

@@ -1,0 +1,6 @@
+use Rattle.std.proofs.Common.{◌≡◌, drop, []}
+use Rattle.proof_cbor.specs.Reading.{ones_from, entry_kind, digest_size}
+use Rattle.proof_cbor.proofs.lists.entries.Given as goal
+
+abbrev pub invariant-loop-pair : goal.invariant-loop-pair
+invariant-loop-pair l = ones_from entry_kind digest_size l.part 32 l.entries (drop l.pair-index l.pairs) ≡ ones_from entry_kind digest_size l.part 32 [] l.pairs

@@ -1,0 +1,212 @@
+-- What a text is read as, or the first refusal in the order of `ValueFault`.
+use Rattle.std.specs.Prelude.{◌≡◌, ℕ, List, [], ◌∷◌, ◌++◌, length, take, drop, Bool, ◌&&◌, Option, Some, None, Result, Ok, Err, ◌==◌, if◌then◌else◌}
+use Rattle.std.specs.List.{list_all}
+use Rattle.std.specs.Option.{option_map, option_and_then, ok_or}
+use Rattle.std.specs.Str.{bytes_eq}
+use Rattle.base64.specs.Engines.{url_safe_no_pad}
+use Rattle.base64.specs.GeneralPurpose.{decode_of}
+use Rattle.base64.specs.declared.decode.DecodeError.{DecodeError}
+use Rattle.cbor_core.specs.declared.fault.CborFault.{CborFault}
+use Rattle.cbor_core.specs.declared.item.Item.{Item, out-Item}
+use Rattle.cbor_core.specs.declared.item.Item.TheOpen.{Item-F}
+use Rattle.cbor_core.specs.declared.item.Pair.{Pair}
+use Rattle.cbor_core.specs.Reading.{reading}
+use Rattle.cbor_core.specs.Writing.{rise}
+use Rattle.proof_cbor.specs.declared.fault.Part.{Part}
+use Rattle.proof_cbor.specs.declared.fault.Part.TheVariants as part
+use Rattle.proof_cbor.specs.declared.fault.ValueFault.{ValueFault}
+use Rattle.proof_cbor.specs.declared.fault.ValueFault.TheVariants as fault
+use Rattle.proof_cbor.specs.declared.value.BaseValue.{BaseValue}
+use Rattle.proof_cbor.specs.declared.value.DerivedValue.{DerivedValue}
+use Rattle.proof_cbor.specs.declared.value.MapEntry.{MapEntry}
+use Rattle.proof_cbor.specs.Values.{base_header, derived_header}
+
+infixl 10 ◌>>=◌
+abbrev pub ◌>>=◌ : {A B : Type 0} → Result A ValueFault → (A → Result B ValueFault) → Result B ValueFault
+(Ok x) >>= f = f x
+(Err e) >>= f = Err e
+
+-- a call gave up with this fault, and reading does so with the same, unless it was want of memory
+abbrev pub Fails : {Y : Type 0} → ValueFault → Result Y ValueFault → Type 0
+Fails fault.Memory read = Unit {0}
+Fails fault.NotMultibase read = read ≡ Err fault.NotMultibase
+Fails fault.Header read = read ≡ Err fault.Header
+Fails (fault.Cbor e) read = read ≡ Err (fault.Cbor e)
+Fails (fault.Shape at) read = read ≡ Err (fault.Shape at)
+Fails (fault.Length at) read = read ≡ Err (fault.Length at)
+Fails fault.Indexes read = read ≡ Err fault.Indexes
+
+-- what a call returned, seen by view, is what reading gives, unless memory ran out
+abbrev pub Gives : {X Y : Type 0} → (X → Y) → Result X ValueFault → Result Y ValueFault → Type 0
+Gives view (Ok x) read = read ≡ Ok (view x)
+Gives view (Err e) read = Fails e read
+
+-- ---- an item as what it is, if it is of that kind
+
+abbrev pub blob_level : Item-F Item → Option (List ℕ)
+blob_level (Item-F.Blob content) = Some content
+blob_level other = None
+
+abbrev pub text_level : Item-F Item → Option (List ℕ)
+text_level (Item-F.Text content) = Some content
+text_level other = None
+
+abbrev pub whole_level : Item-F Item → Option ℕ
+whole_level (Item-F.Whole n) = Some n
+whole_level other = None
+
+abbrev pub list_level : Item-F Item → Option (List Item)
+list_level (Item-F.List items) = Some items
+list_level other = None
+
+abbrev pub map_level : Item-F Item → Option (List (Pair Item))
+map_level (Item-F.Map pairs) = Some pairs
+map_level other = None
+
+abbrev pub blob_kind : Item → Option (List ℕ)
+blob_kind item = blob_level (out-Item item)
+
+abbrev pub text_kind : Item → Option (List ℕ)
+text_kind item = text_level (out-Item item)
+
+abbrev pub whole_kind : Item → Option ℕ
+whole_kind item = whole_level (out-Item item)
+
+-- each of a list, if all are of the kind
+unfoldable pub each_is : {X Y : Type 0} → (X → Option Y) → List X → Option (List Y)
+each_is kind [] = Some []
+each_is kind (x ∷ xs) = option_and_then (λ y. option_map (λ ys. y ∷ ys) (each_is kind xs)) (kind x)
+
+-- an entry of a label map
+abbrev pub entry_of : ℕ → List ℕ → MapEntry
+entry_of number digest = record { number = number; digest = digest }
+
+-- a pair as an entry of a label map, if its value is a byte string
+abbrev pub entry_kind : Pair Item → Option MapEntry
+entry_kind p = option_map (entry_of p.key) (blob_level (out-Item p.value))
+
+-- the number of bytes of an entry's digest
+abbrev pub digest_size : MapEntry → ℕ
+digest_size e = length e.digest
+
+-- ---- one part
+
+-- what is of the kind and of this size
+abbrev pub one_of : {X Y : Type 0} → (X → Option Y) → (Y → ℕ) → Part → ℕ → X → Result Y ValueFault
+one_of kind size at n x = do
+  y ← ok_or (kind x) (fault.Shape at)
+  if size y == n then Ok y else Err (fault.Length at)
+
+-- such ones behind those that are done, the first other one refused
+unfoldable pub ones_from : {X Y : Type 0} → (X → Option Y) → (Y → ℕ) → Part → ℕ → List Y → List X → Result (List Y) ValueFault
+ones_from kind size at n done [] = Ok done
+ones_from kind size at n done (x ∷ xs) = do
+  y ← one_of kind size at n x
+  ones_from kind size at n (done ++ y ∷ []) xs
+
+-- those of one kind, where each is of this size
+abbrev pub sized : {Y : Type 0} → (Y → ℕ) → Part → ℕ → List Y → Result (List Y) ValueFault
+sized size at n ys = if list_all (λ y. size y == n) ys then Ok ys else Err (fault.Length at)
+
+-- each is of the kind, and then each is of this size
+abbrev pub ones_of : {X Y : Type 0} → (X → Option Y) → (Y → ℕ) → Part → ℕ → List X → Result (List Y) ValueFault
+ones_of kind size at n xs = do
+  ys ← ok_or (each_is kind xs) (fault.Shape at)
+  sized size at n ys
+
+-- a byte string of so many bytes
+abbrev pub blob_of : Part → ℕ → Item → Result (List ℕ) ValueFault
+blob_of at n item = one_of blob_kind length at n item
+
+-- a list of byte strings of so many bytes each
+abbrev pub blobs_of : Part → ℕ → Item → Result (List (List ℕ)) ValueFault
+blobs_of at n item = do
+  items ← ok_or (list_level (out-Item item)) (fault.Shape at)
+  ones_of blob_kind length at n items
+
+-- a list of texts
+abbrev pub texts_of : Part → Item → Result (List (List ℕ)) ValueFault
+texts_of at item = do
+  items ← ok_or (list_level (out-Item item)) (fault.Shape at)
+  ok_or (each_is text_kind items) (fault.Shape at)
+
+-- a list of whole numbers
+abbrev pub wholes_of : Part → Item → Result (List ℕ) ValueFault
+wholes_of at item = do
+  items ← ok_or (list_level (out-Item item)) (fault.Shape at)
+  ok_or (each_is whole_kind items) (fault.Shape at)
+
+-- a map to byte strings of so many bytes each
+abbrev pub labels_of : Part → ℕ → Item → Result (List MapEntry) ValueFault
+labels_of at n item = do
+  pairs ← ok_or (map_level (out-Item item)) (fault.Shape at)
+  ones_of entry_kind digest_size at n pairs
+
+-- ---- the whole
+
+-- the five parts of a list
+abbrev pub Five : Type 0
+Five = Item × Item × Item × Item × Item
+
+abbrev pub five_of : List Item → Option Five
+five_of (a ∷ b ∷ c ∷ d ∷ e ∷ []) = Some (a, b, c, d, e)
+five_of other = None
+
+abbrev pub parts_of : Item → Result Five ValueFault
+parts_of item = ok_or (option_and_then five_of (list_level (out-Item item))) (fault.Shape part.Array)
+
+unfoldable pub base_of : Item → Result BaseValue ValueFault
+base_of item = do
+  five ← parts_of item
+  signature ← blob_of part.BaseSignature 64 five.0
+  key ← blob_of part.PublicKey 35 five.1
+  secret ← blob_of part.HmacKey 32 five.2
+  signatures ← blobs_of part.Signatures 64 five.3
+  pointers ← texts_of part.Pointers five.4
+  Ok (record { signature = signature; key = key; secret = secret; signatures = signatures; pointers = pointers })
+
+unfoldable pub derived_of : Item → Result DerivedValue ValueFault
+derived_of item = do
+  five ← parts_of item
+  signature ← blob_of part.BaseSignature 64 five.0
+  key ← blob_of part.PublicKey 35 five.1
+  signatures ← blobs_of part.Signatures 64 five.2
+  labels ← labels_of part.LabelMap 32 five.3
+  indexes ← wholes_of part.Indexes five.4
+  if rise indexes then Ok (record { signature = signature; key = key; signatures = signatures; labels = labels; indexes = indexes }) else Err fault.Indexes
+
+-- bytes that base64url gave, if it did
+abbrev pub decoded : Result (List ℕ) DecodeError → Result (List ℕ) ValueFault
+decoded (Ok bytes) = Ok bytes
+decoded (Err e) = Err fault.NotMultibase
+
+-- the bytes of a text that begins with `u`
+abbrev pub bytes_of : List ℕ → Result (List ℕ) ValueFault
+bytes_of [] = Err fault.NotMultibase
+bytes_of (c ∷ text) = if c == 117 then decoded (decode_of url_safe_no_pad text) else Err fault.NotMultibase
+
+-- what follows the three bytes of a header
+abbrev pub behind : List ℕ → List ℕ → Result (List ℕ) ValueFault
+behind header bytes = if bytes_eq (take 3 bytes) header then Ok (drop 3 bytes) else Err fault.Header
+
+abbrev pub item_of : Result Item CborFault → Result Item ValueFault
+item_of (Ok item) = Ok item
+item_of (Err e) = Err (fault.Cbor e)
+
+-- the item that follows a header
+unfoldable pub item_behind : List ℕ → List ℕ → Result Item ValueFault
+item_behind header bytes = do
+  rest ← behind header bytes
+  item_of (reading rest)
+
+unfoldable pub reading_base : List ℕ → Result BaseValue ValueFault
+reading_base text = do
+  bytes ← bytes_of text
+  item ← item_behind base_header bytes
+  base_of item
+
+unfoldable pub reading_derived : List ℕ → Result DerivedValue ValueFault
+reading_derived text = do
+  bytes ← bytes_of text
+  item ← item_behind derived_header bytes
+  derived_of item

@@ -1,0 +1,86 @@
+-- Which text spells a proof value of `ecdsa-sd-2023` (Data Integrity ECDSA Cryptosuites 1.0, 3.5.2 to 3.5.3 and 3.5.7 to 3.5.8).
+use Rattle.std.specs.Prelude.{◌≡◌, ℕ, ◌≤◌, List, [], ◌∷◌, ◌++◌, length, map, Bool, true, ◌==◌}
+use Rattle.std.specs.List.{list_all}
+use Rattle.base64.specs.Engines.{url_safe_no_pad}
+use Rattle.base64.specs.GeneralPurpose.{encode_of, IsBytes}
+use Rattle.cbor_core.specs.declared.item.Item.{Item}
+use Rattle.cbor_core.specs.declared.item.Item.TheVariants as v
+use Rattle.cbor_core.specs.declared.item.Pair.{Pair}
+use Rattle.cbor_core.specs.Grammar.{Spells}
+use Rattle.cbor_core.specs.Writing.{rise, spelling}
+use Rattle.proof_cbor.specs.declared.value.BaseValue.{BaseValue}
+use Rattle.proof_cbor.specs.declared.value.DerivedValue.{DerivedValue}
+use Rattle.proof_cbor.specs.declared.value.MapEntry.{MapEntry}
+
+-- the three bytes before a base value (3.5.2, step 2)
+abbrev pub base_header : List ℕ
+base_header = 0xd9 ∷ 0x5d ∷ 0x00 ∷ []
+
+-- the three bytes before a derived value (3.5.7, step 2)
+abbrev pub derived_header : List ℕ
+derived_header = 0xd9 ∷ 0x5d ∷ 0x01 ∷ []
+
+-- the text of bytes: `u`, and base64url without padding (RFC 4648, section 5; Controlled Identifiers 1.0, 2.4)
+abbrev pub text_of : List ℕ → List ℕ
+text_of bytes = 117 ∷ encode_of url_safe_no_pad bytes
+
+-- the text is that of these bytes; each number of the list is one byte
+abbrev pub IsText : List ℕ → List ℕ → Type 0
+IsText text bytes = IsBytes bytes × (text ≡ text_of bytes)
+
+-- each of the byte strings has so many bytes
+abbrev pub all_sized : ℕ → List (List ℕ) → Bool
+all_sized n contents = list_all (λ c. length c == n) contents
+
+-- an entry of a label map, as the pair of a map from numbers to byte strings
+abbrev pub pair_of : MapEntry → Pair Item
+pair_of entry = record { key = entry.number; value = v.Blob entry.digest }
+
+-- the list of five parts that a base value is (3.5.2, step 3)
+unfoldable pub base_item : BaseValue → Item
+base_item value = v.List (v.Blob value.signature ∷ v.Blob value.key ∷ v.Blob value.secret ∷ v.List (map v.Blob value.signatures) ∷ v.List (map v.Text value.pointers) ∷ [])
+
+-- the list of five parts that a derived value is (3.5.7, step 3)
+unfoldable pub derived_item : DerivedValue → Item
+derived_item value = v.List (v.Blob value.signature ∷ v.Blob value.key ∷ v.List (map v.Blob value.signatures) ∷ v.Map (map pair_of value.labels) ∷ v.List (map v.Whole value.indexes) ∷ [])
+
+-- the byte strings of a base value have their lengths (3.5.3, step 7)
+pub record BaseSizes (value : BaseValue) : Type 0 where
+  pub signature : length value.signature ≡ 64
+  pub key : length value.key ≡ 35
+  pub secret : length value.secret ≡ 32
+  pub signatures : all_sized 64 value.signatures ≡ true
+
+-- the byte strings of a derived value have their lengths (3.5.8, step 7)
+pub record DerivedSizes (value : DerivedValue) : Type 0 where
+  pub signature : length value.signature ≡ 64
+  pub key : length value.key ≡ 35
+  pub signatures : all_sized 64 value.signatures ≡ true
+  pub digests : list_all (λ (e : MapEntry). length e.digest == 32) value.labels ≡ true
+
+-- the text spells an item behind a header, which nests at most 4 deep and has at most 100,000 items
+abbrev pub SpellsBehind : List ℕ → Item → List ℕ → Type 0
+SpellsBehind header item text = (count : ℕ) × (rest : List ℕ) × (count ≤ 100000) × Spells 4 item count rest × IsText text (header ++ rest)
+
+-- the text spells the base value
+pub record SpellsBase (value : BaseValue) (text : List ℕ) : Type 0 where
+  pub sizes : BaseSizes value
+  pub spelled : SpellsBehind base_header (base_item value) text
+
+-- The text spells the derived value, whose indexes rise. Its label map may be spelled in any order of
+-- numbers; the value has them by rising number.
+pub record SpellsDerived (value : DerivedValue) (text : List ℕ) : Type 0 where
+  pub sizes : DerivedSizes value
+  pub rising : rise value.indexes ≡ true
+  pub spelled : SpellsBehind derived_header (derived_item value) text
+
+-- the bytes that are written for a value, its label map by rising number
+abbrev pub base_bytes : BaseValue → List ℕ
+base_bytes value = base_header ++ spelling (base_item value)
+
+abbrev pub derived_bytes : DerivedValue → List ℕ
+derived_bytes value = derived_header ++ spelling (derived_item value)
+
+-- the base value with another signature
+abbrev pub signed : BaseValue → List ℕ → BaseValue
+signed value signature = record value { signature = signature }

@@ -1,0 +1,43 @@
+ghost use Rattle.std.specs.Prelude.{◌≡◌, IfOk};
+ghost use Rattle.proof_cbor.specs.Values.{IsText};
+ghost use Rattle.proof_cbor.specs.Reading.{Gives, bytes_of, item_behind};
+
+use crate::fault::ValueFault;
+use base64::DecodeAllocError;
+use base64::engine::general_purpose::URL_SAFE_NO_PAD;
+use cbor_core::{CborFault, Item, decode};
+use std::alloc::Global;
+
+/// The bytes of a text: `u`, and strict base64url without padding.
+pub fn bytes_in(alloc: Global, text: &str) -> Result<Vec<u8>, ValueFault>
+    ensures exact { Gives (λ x. x.items) result (bytes_of text.now) }
+    ensures text { IfOk result (λ bytes. IsText text.now bytes.items) }
+{
+    let [b'u', rest @ ..] = text.as_bytes() else {
+        return Err(ValueFault::NotMultibase);
+    };
+    match URL_SAFE_NO_PAD.decode(alloc, rest) {
+        Ok(bytes) => Ok(bytes),
+        Err(DecodeAllocError::OutOfMemory) => Err(ValueFault::Memory),
+        Err(DecodeAllocError::DecodeError(_)) => Err(ValueFault::NotMultibase),
+    }
+}
+
+/// The item behind a header.
+#[tactic(auto, unfolding(crate::specs::Reading::item_behind))]
+pub fn item_in(alloc: Global, header: &[u8; 3], bytes: &[u8]) -> Result<Item, ValueFault>
+    ensures { Gives (λ x. x) result (item_behind header.now bytes.now) }
+{
+    if bytes.len() < 3 {
+        return Err(ValueFault::Header);
+    }
+    let (front, rest) = bytes.split_at(3);
+    if front != header.as_slice() {
+        return Err(ValueFault::Header);
+    }
+    match decode(alloc, rest) {
+        Ok(item) => Ok(item),
+        Err(CborFault::Memory) => Err(ValueFault::Memory),
+        Err(fault) => Err(ValueFault::Cbor(fault)),
+    }
+}

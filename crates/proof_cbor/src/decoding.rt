@@ -1,0 +1,105 @@
+ghost use Rattle.std.specs.Prelude.{◌≡◌, IfOk, Ok};
+ghost use Rattle.proof_cbor.specs.declared.value.BaseValue.{BaseValue};
+ghost use Rattle.proof_cbor.specs.declared.value.DerivedValue.{DerivedValue};
+ghost use Rattle.proof_cbor.specs.Values.{SpellsBase, SpellsDerived};
+ghost use Rattle.proof_cbor.specs.Reading.{Gives, base_of, derived_of, reading_base, reading_derived};
+
+use crate::bytes::{bytes_in, item_in};
+use crate::fault::{Part, ValueFault};
+use crate::headers::{BASE_HEADER, DERIVED_HEADER};
+use crate::lists::{labels_in, signatures_in, texts_in, wholes_in};
+use crate::parts::{five_in, key_in, rises, secret_in, signature_in};
+use crate::value::{BaseValue, DerivedValue};
+use cbor_core::Item;
+use std::alloc::Global;
+
+/// The base value that an item is.
+#[tactic(auto, unfolding(crate::specs::Reading::base_of))]
+fn base_in(alloc: Global, item: &Item) -> Result<BaseValue, ValueFault>
+    ensures { Gives (λ x. x) result (base_of item.now) }
+{
+    let (signature, key, secret, signatures, pointers) = five_in(item)?;
+    let signature = signature_in(Part::BaseSignature, signature)?;
+    let key = key_in(Part::PublicKey, key)?;
+    let secret = secret_in(Part::HmacKey, secret)?;
+    let signatures = signatures_in(alloc, Part::Signatures, signatures)?;
+    let pointers = texts_in(alloc, Part::Pointers, pointers)?;
+    Ok(BaseValue {
+        signature,
+        key,
+        secret,
+        signatures,
+        pointers,
+    })
+}
+
+/// The derived value that an item is.
+#[tactic(auto, unfolding(crate::specs::Reading::derived_of))]
+fn derived_in(alloc: Global, item: &Item) -> Result<DerivedValue, ValueFault>
+    ensures { Gives (λ x. x) result (derived_of item.now) }
+{
+    let (signature, key, signatures, labels, indexes) = five_in(item)?;
+    let signature = signature_in(Part::BaseSignature, signature)?;
+    let key = key_in(Part::PublicKey, key)?;
+    let signatures = signatures_in(alloc, Part::Signatures, signatures)?;
+    let labels = labels_in(alloc, Part::LabelMap, labels)?;
+    let indexes = wholes_in(alloc, Part::Indexes, indexes)?;
+    if !rises(indexes.as_slice()) {
+        return Err(ValueFault::Indexes);
+    }
+    Ok(DerivedValue {
+        signature,
+        key,
+        signatures,
+        labels,
+        indexes,
+    })
+}
+
+#[tactic(auto, unfolding(crate::specs::Reading::reading_base))]
+fn read_base(alloc: Global, text: &str) -> Result<BaseValue, ValueFault>
+    ensures found { IfOk result (λ value. SpellsBase value text.now) }
+    ensures exact { Gives (λ x. x) result (reading_base text.now) }
+{
+    let bytes = bytes_in(alloc, text)?;
+    let item = item_in(alloc, &BASE_HEADER, &bytes)?;
+    base_in(alloc, &item)
+}
+
+#[tactic(auto, unfolding(crate::specs::Reading::reading_derived))]
+fn read_derived(alloc: Global, text: &str) -> Result<DerivedValue, ValueFault>
+    ensures found { IfOk result (λ value. SpellsDerived value text.now) }
+    ensures exact { Gives (λ x. x) result (reading_derived text.now) }
+{
+    let bytes = bytes_in(alloc, text)?;
+    let item = item_in(alloc, &DERIVED_HEADER, &bytes)?;
+    derived_in(alloc, &item)
+}
+
+/// The base value that a text spells (Data Integrity ECDSA Cryptosuites 1.0, 3.5.3).
+///
+/// Each refusal is the first that applies, in the order of `ValueFault`.
+pub fn decode_base(alloc: Global, text: &str) -> Result<BaseValue, ValueFault>
+    // What is read is spelled by the text, all of it.
+    ensures found { IfOk result (λ value. SpellsBase value text.now) }
+    // What is spelled within the limits is read, unless memory runs out.
+    ensures only { (value : BaseValue) → SpellsBase value text.now → Gives (λ x. x) result (Ok value) }
+    // Which value, or which refusal, it is.
+    ensures exact { Gives (λ x. x) result (reading_base text.now) }
+{
+    read_base(alloc, text)
+}
+
+/// The derived value that a text spells (Data Integrity ECDSA Cryptosuites 1.0, 3.5.8).
+///
+/// Each refusal is the first that applies, in the order of `ValueFault`.
+pub fn decode_derived(alloc: Global, text: &str) -> Result<DerivedValue, ValueFault>
+    // What is read is spelled by the text, all of it.
+    ensures found { IfOk result (λ value. SpellsDerived value text.now) }
+    // What is spelled within the limits is read, unless memory runs out.
+    ensures only { (value : DerivedValue) → SpellsDerived value text.now → Gives (λ x. x) result (Ok value) }
+    // Which value, or which refusal, it is.
+    ensures exact { Gives (λ x. x) result (reading_derived text.now) }
+{
+    read_derived(alloc, text)
+}

@@ -1,0 +1,111 @@
+use super::*;
+use base64::engine::general_purpose::URL_SAFE_NO_PAD;
+use std::test::*;
+
+/// A base value of zeros but for the last byte of the key and of the secret, with the one pointer ``.
+const BASE: &str = "u2V0AhVhAAAAAAAAAAAAAAAAAAAAAAAAAAAAAAAAAAAAAAAAAAAAAAAAAAAAAAAAAAAAAAAAAAAAAAAAAAAAAAAAAAAAAAVgjAAEAAAAAAAAAAAAAAAAAAAAAAAAAAAAAAAAAAAAAAAAAAAFYIAAAAAAAAAAAAAAAAAAAAAAAAAAAAAAAAAAAAAAAAAABgIFg";
+
+/// A derived value of zeros but for the last byte of the key, with the one mandatory index 0.
+const DERIVED: &str = "u2V0BhVhAAAAAAAAAAAAAAAAAAAAAAAAAAAAAAAAAAAAAAAAAAAAAAAAAAAAAAAAAAAAAAAAAAAAAAAAAAAAAAAAAAAAAAVgjAAEAAAAAAAAAAAAAAAAAAAAAAAAAAAAAAAAAAAAAAAAAAAGAoIEA";
+
+/// One part of a value, as CBOR.
+#[derive(Drop)]
+enum Spelled {
+    /// A byte string of so many zeros.
+    Zeros(usize),
+    /// These bytes.
+    Raw(&'static [u8]),
+}
+
+/// The text of a value with these parts.
+fn text_of(rt: &HostRuntime, kind: u8, parts: &[Spelled]) -> String {
+    let mut bytes = Vec::new(rt.alloc());
+    let head = [0xd9, 0x5d, kind, 0x80 + parts.len() as u8];
+    bytes.extend_from_slice(&head).unwrap();
+    for part in parts {
+        match part {
+            Spelled::Zeros(count) => {
+                let head = [0x58, *count as u8];
+                bytes.extend_from_slice(&head).unwrap();
+                for _ in 0..*count {
+                    bytes.push(0).unwrap();
+                }
+            }
+            Spelled::Raw(raw) => bytes.extend_from_slice(raw).unwrap(),
+        }
+    }
+    let mut text = String::from_str(rt.alloc(), "u").unwrap();
+    URL_SAFE_NO_PAD.encode_string(&bytes, &mut text).unwrap();
+    text
+}
+
+#[test]
+fn texts_that_are_cut(rt: HostRuntime) {
+    assert!(rt; decode_base(rt.alloc(), BASE).is_ok());
+    assert!(rt; decode_derived(rt.alloc(), DERIVED).is_ok());
+    assert!(rt; decode_base(rt.alloc(), DERIVED).err() == Some(ValueFault::Header));
+    assert!(rt; decode_derived(rt.alloc(), BASE).err() == Some(ValueFault::Header));
+    let cases: [(&str, ValueFault); 9] = [
+        ("", ValueFault::NotMultibase),
+        ("u2", ValueFault::NotMultibase),
+        ("u2V", ValueFault::NotMultibase),
+        ("z2V0A", ValueFault::NotMultibase),
+        ("u2V0A=", ValueFault::NotMultibase),
+        ("u", ValueFault::Header),
+        ("u2V0", ValueFault::Header),
+        ("u2V0A", ValueFault::Cbor(CborFault::Truncated(0))),
+        ("u2V0AhVhA", ValueFault::Cbor(CborFault::Truncated(3))),
+    ];
+    for (text, want) in cases {
+        assert!(rt;
+            decode_base(rt.alloc(), text).err() == Some(want),
+            "at {text}"
+        );
+    }
+}
+
+#[test]
+fn parts_of_another_kind_or_length(rt: HostRuntime) {
+    use Spelled::{Raw, Zeros};
+    let base: [([Spelled; 5], Option<ValueFault>); 13] = [
+        ([Zeros(64), Zeros(35), Zeros(32), Raw(&[0x80]), Raw(&[0x80])], None),
+        ([Raw(&[0x00]), Zeros(35), Zeros(32), Raw(&[0x80]), Raw(&[0x80])], Some(ValueFault::Shape(Part::BaseSignature))),
+        ([Zeros(63), Raw(&[0x00]), Zeros(32), Raw(&[0x80]), Raw(&[0x80])], Some(ValueFault::Length(Part::BaseSignature))),
+        ([Zeros(64), Raw(&[0x60]), Zeros(31), Raw(&[0x80]), Raw(&[0x80])], Some(ValueFault::Shape(Part::PublicKey))),
+        ([Zeros(64), Zeros(36), Zeros(31), Raw(&[0x80]), Raw(&[0x80])], Some(ValueFault::Length(Part::PublicKey))),
+        ([Zeros(64), Zeros(35), Raw(&[0x80]), Raw(&[0x00]), Raw(&[0x80])], Some(ValueFault::Shape(Part::HmacKey))),
+        ([Zeros(64), Zeros(35), Zeros(35), Raw(&[0x00]), Raw(&[0x80])], Some(ValueFault::Length(Part::HmacKey))),
+        ([Zeros(64), Zeros(35), Zeros(32), Raw(&[0x40]), Raw(&[0x00])], Some(ValueFault::Shape(Part::Signatures))),
+        ([Zeros(64), Zeros(35), Zeros(32), Raw(&[0x82, 0x40, 0x60]), Raw(&[0x00])], Some(ValueFault::Shape(Part::Signatures))),
+        ([Zeros(64), Zeros(35), Zeros(32), Raw(&[0x82, 0x40, 0x41, 0x00]), Raw(&[0x00])], Some(ValueFault::Length(Part::Signatures))),
+        ([Zeros(64), Zeros(35), Zeros(32), Raw(&[0x80]), Raw(&[0x60])], Some(ValueFault::Shape(Part::Pointers))),
+        ([Zeros(64), Zeros(35), Zeros(32), Raw(&[0x80]), Raw(&[0x81, 0x40])], Some(ValueFault::Shape(Part::Pointers))),
+        ([Zeros(64), Zeros(35), Zeros(32), Raw(&[0x80]), Raw(&[0x82, 0x61, 0x61, 0x60])], None),
+    ];
+    for (parts, want) in base {
+        let text = text_of(&rt, 0, &parts);
+        assert!(rt; decode_base(rt.alloc(), &text).err() == want, "at {text}");
+    }
+    let derived: [([Spelled; 5], Option<ValueFault>); 13] = [
+        ([Zeros(64), Zeros(35), Raw(&[0x80]), Raw(&[0xa0]), Raw(&[0x82, 0x01, 0x18, 0x18])], None),
+        ([Raw(&[0x60]), Zeros(35), Raw(&[0x80]), Raw(&[0xa0]), Raw(&[0x80])], Some(ValueFault::Shape(Part::BaseSignature))),
+        ([Zeros(65), Zeros(35), Raw(&[0x80]), Raw(&[0xa0]), Raw(&[0x80])], Some(ValueFault::Length(Part::BaseSignature))),
+        ([Zeros(64), Raw(&[0xa0]), Raw(&[0x80]), Raw(&[0xa0]), Raw(&[0x80])], Some(ValueFault::Shape(Part::PublicKey))),
+        ([Zeros(64), Zeros(64), Raw(&[0x00]), Raw(&[0xa0]), Raw(&[0x80])], Some(ValueFault::Length(Part::PublicKey))),
+        ([Zeros(64), Zeros(35), Raw(&[0xa0]), Raw(&[0x80]), Raw(&[0x80])], Some(ValueFault::Shape(Part::Signatures))),
+        ([Zeros(64), Zeros(35), Raw(&[0x81, 0x40]), Raw(&[0x80]), Raw(&[0x80])], Some(ValueFault::Length(Part::Signatures))),
+        ([Zeros(64), Zeros(35), Raw(&[0x80]), Raw(&[0x80]), Raw(&[0xa0])], Some(ValueFault::Shape(Part::LabelMap))),
+        ([Zeros(64), Zeros(35), Raw(&[0x80]), Raw(&[0xa2, 0x00, 0x40, 0x01, 0x00]), Raw(&[0x00])], Some(ValueFault::Shape(Part::LabelMap))),
+        ([Zeros(64), Zeros(35), Raw(&[0x80]), Raw(&[0xa1, 0x00, 0x40]), Raw(&[0x00])], Some(ValueFault::Length(Part::LabelMap))),
+        ([Zeros(64), Zeros(35), Raw(&[0x80]), Raw(&[0xa0]), Raw(&[0x82, 0x01, 0x60])], Some(ValueFault::Shape(Part::Indexes))),
+        ([Zeros(64), Zeros(35), Raw(&[0x80]), Raw(&[0xa0]), Raw(&[0x82, 0x01, 0x01])], Some(ValueFault::Indexes)),
+        ([Zeros(64), Zeros(35), Raw(&[0x80]), Raw(&[0xa0]), Raw(&[0x83, 0x00, 0x02, 0x01])], Some(ValueFault::Indexes)),
+    ];
+    for (parts, want) in derived {
+        let text = text_of(&rt, 1, &parts);
+        assert!(rt; decode_derived(rt.alloc(), &text).err() == want, "at {text}");
+    }
+    let four = [Zeros(64), Zeros(35), Zeros(32), Raw(&[0x80])];
+    let text = text_of(&rt, 0, &four);
+    assert!(rt; decode_base(rt.alloc(), &text).err() == Some(ValueFault::Shape(Part::Array)));
+}
