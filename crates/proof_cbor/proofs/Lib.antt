@@ -4,3 +4,4 @@ pub mod Five
 pub mod Rise
 pub mod Inverses
 pub mod Spelled
+pub mod Making

@@ -7,7 +7,7 @@ use Rattle.cbor_core.specs.declared.item.Item.{Item}
 use Rattle.cbor_core.specs.declared.item.Item.TheVariants as v
 use Rattle.cbor_core.specs.declared.item.Pair.{Pair}
 use Rattle.cbor_core.specs.Grammar.{Spells}
-use Rattle.cbor_core.specs.Writing.{rise, spelling}
+use Rattle.cbor_core.specs.Writing.{rise, spelling, count_of}
 use Rattle.proof_cbor.specs.declared.value.BaseValue.{BaseValue}
 use Rattle.proof_cbor.specs.declared.value.DerivedValue.{DerivedValue}
 use Rattle.proof_cbor.specs.declared.value.MapEntry.{MapEntry}
@@ -31,6 +31,10 @@ IsText text bytes = IsBytes bytes × (text ≡ text_of bytes)
 -- each of the byte strings has so many bytes
 abbrev pub all_sized : ℕ → List (List ℕ) → Bool
 all_sized n contents = list_all (λ c. length c == n) contents
+
+-- each of the digests has 32 bytes
+abbrev pub digests_sized : List MapEntry → Bool
+digests_sized entries = list_all (λ (e : MapEntry). length e.digest == 32) entries
 
 -- an entry of a label map, as the pair of a map from numbers to byte strings
 abbrev pub pair_of : MapEntry → Pair Item
@@ -56,7 +60,7 @@ pub record DerivedSizes (value : DerivedValue) : Type 0 where
   pub signature : length value.signature ≡ 64
   pub key : length value.key ≡ 35
   pub signatures : all_sized 64 value.signatures ≡ true
-  pub digests : list_all (λ (e : MapEntry). length e.digest == 32) value.labels ≡ true
+  pub digests : digests_sized value.labels ≡ true
 
 -- the text spells an item behind a header, which nests at most 4 deep and has at most 100,000 items
 abbrev pub SpellsBehind : List ℕ → Item → List ℕ → Type 0
@@ -80,6 +84,13 @@ base_bytes value = base_header ++ spelling (base_item value)
 
 abbrev pub derived_bytes : DerivedValue → List ℕ
 derived_bytes value = derived_header ++ spelling (derived_item value)
+
+-- the value is one of Rust's types, and its bytes spell it
+abbrev pub CanWriteBase : BaseValue → Type 0
+CanWriteBase value = BaseSizes value × Spells 4 (base_item value) (count_of (base_item value)) (spelling (base_item value))
+
+abbrev pub CanWriteDerived : DerivedValue → Type 0
+CanWriteDerived value = DerivedSizes value × Spells 4 (derived_item value) (count_of (derived_item value)) (spelling (derived_item value))
 
 -- the base value with another signature
 abbrev pub signed : BaseValue → List ℕ → BaseValue

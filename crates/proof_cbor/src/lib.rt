@@ -8,8 +8,10 @@
 
 mod bytes;
 mod decoding;
+mod encoding;
 mod fault;
 mod headers;
+mod items;
 mod kinds;
 mod lists;
 mod parts;
@@ -18,6 +20,7 @@ mod value;
 pub use base_types::{Memory, Sequence, Text};
 pub use cbor_core::CborFault;
 pub use decoding::{decode_base, decode_derived};
+pub use encoding::{encode_base, encode_derived};
 pub use fault::{Part, ValueFault};
 pub use value::{BaseValue, DerivedValue, MapEntry};
 

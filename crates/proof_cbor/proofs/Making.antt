@@ -1,0 +1,182 @@
+-- The item of a value, and that it may be written.
+use Rattle.std.proofs.Common.{◌≡◌, ℕ, suc, ◌+◌, ◌≤◌, ◌<◌, Bool, true, false, List, [], ◌∷◌, ◌++◌, length, get_or, take, map, refl, sym, ap, subst, ◌∙◌, add-one, arith, eqb, Result, Ok, Err}
+use Rattle.std.specs.Prelude.{◌&&◌, max, IfOk}
+use Rattle.std.specs.List.{list_all}
+use Rattle.std.proofs.Math.Seq.{take-suc}
+use Rattle.std.proofs.lemmas.List.Folds.{list_all_more}
+use Rattle.std.proofs.lemmas.Bool.{eq-eqb}
+use Rattle.std.proofs.lemmas.List.{map-append, take_all, take_more}
+use Rattle.cbor_core.specs.declared.item.Item.{Item, fold-roll-Item}
+use Rattle.cbor_core.specs.declared.item.Item.TheOpen.{Item-F}
+use Rattle.cbor_core.specs.declared.item.Item.TheVariants as v
+use Rattle.cbor_core.specs.declared.item.Pair.{Pair}
+use Rattle.cbor_core.specs.Writing.{largest_over, nesting_step, nesting_of, count_of, keys_rise_step, keys_rise, rise, spelling}
+use Rattle.cbor_core.proofs.Lawful.{nesting-List, nesting-Map, rise-List, rise-Map}
+use Rattle.base_types.specs.declared.memory.Memory.{Memory}
+use Rattle.proof_cbor.specs.Reading.{reading_base, reading_derived}
+use Rattle.proof_cbor.proofs.Spelled.{base_read, derived_read}
+use Rattle.proof_cbor.specs.declared.value.BaseValue.{BaseValue}
+use Rattle.proof_cbor.specs.declared.value.DerivedValue.{DerivedValue}
+use Rattle.proof_cbor.specs.declared.value.MapEntry.{MapEntry}
+use Rattle.proof_cbor.specs.Values.{all_sized, digests_sized, pair_of, base_item, derived_item, base_bytes, derived_bytes, text_of, CanWriteBase, CanWriteDerived, SpellsBase, SpellsDerived}
+use Rattle.base64.specs.GeneralPurpose.{IsBytes}
+
+pub making_end : {X Y : Type 0} (f : X → Y) (xs : List X) (i : ℕ) (done : List Y) → length xs ≤ i → done ≡ map f (take i xs) → done ≡ map f xs
+making_end f xs i done le is = is ∙ ap (map f) (take_all i xs le)
+
+pub making_more : {X Y : Type 0} (f : X → Y) (xs : List X) (i : ℕ) (x : X) (done : List Y) → i < length xs → x ≡ get_or xs i x → done ≡ map f (take i xs) → done ++ f x ∷ [] ≡ map f (take (i + 1) xs)
+making_more f xs i x done lt is so_far =
+    let one : take (i + 1) xs ≡ take i xs ++ x ∷ [] = rw add-one (take-suc xs i x lt ∙ ap (λ z. take i xs ++ z ∷ []) (sym is)) in
+    let two : map f (take (i + 1) xs) ≡ map f (take i xs) ++ f x ∷ [] = ap (map f) one ∙ map-append f (take i xs) (x ∷ []) in
+    ap (λ z. z ++ f x ∷ []) so_far ∙ sym two
+
+pub ruleset making_steps = (making_end, making_more)
+
+-- ---- each so many bytes long
+
+pub sized_more : (n : ℕ) (cs : List (List ℕ)) (i : ℕ) (c : List ℕ) → i < length cs → c ≡ get_or cs i c → length c ≡ n → all_sized n (take i cs) ≡ true → all_sized n (take (i + 1) cs) ≡ true
+sized_more n cs i c lt is size so_far = list_all_more (λ (x : List ℕ). eqb (length x) n) cs i c lt ∙ rw (so_far, ← is) (eq-eqb (length c) n size)
+
+pub sized_end : (n : ℕ) (cs : List (List ℕ)) (i : ℕ) → length cs ≤ i → all_sized n (take i cs) ≡ true → all_sized n cs ≡ true
+sized_end n cs i le so_far = ap (all_sized n) (sym (take_all i cs le)) ∙ so_far
+
+-- a label that is read past the end of a list
+abbrev pub no_label : MapEntry
+no_label = record { number = 0; digest = [] }
+
+abbrev pub pair_at : ℕ → Item → Pair Item
+pair_at key value = record { key = key; value = value }
+
+pub labels_more : (es : List MapEntry) (i : ℕ) (done new : List (Pair Item)) (value : Item) (digest : List ℕ) → i < length es → digest ≡ (get_or es i no_label).digest → value ≡ v.Blob digest → length digest ≡ 32 → new ≡ done ++ pair_at (get_or es i no_label).number value ∷ []
+    → (done ≡ map pair_of (take i es)) × (digests_sized (take i es) ≡ true) → (new ≡ map pair_of (take (i + 1) es)) × (digests_sized (take (i + 1) es) ≡ true)
+labels_more es i done new value digest lt same is size pushed so_far =
+    let e = get_or es i no_label in
+    let one : take (i + 1) es ≡ take i es ++ e ∷ [] = take_more es i no_label lt in
+    let two : map pair_of (take (i + 1) es) ≡ map pair_of (take i es) ++ pair_of e ∷ [] = ap (map pair_of) one ∙ map-append pair_of (take i es) (e ∷ []) in
+    let entry : pair_at e.number value ≡ pair_of e = ap (pair_at e.number) (is ∙ ap v.Blob same) in
+    let all : done ++ pair_at e.number value ∷ [] ≡ map pair_of (take i es) ++ pair_of e ∷ [] = cc (so_far.0, entry) in
+    let long : eqb (length e.digest) 32 ≡ true = eq-eqb (length e.digest) 32 (ap length (sym same) ∙ size) in
+    (pushed ∙ all ∙ sym two, list_all_more (λ (x : MapEntry). eqb (length x.digest) 32) es i no_label lt ∙ rw (so_far.1, long) refl)
+
+pub digests_end : (es : List MapEntry) (i : ℕ) → length es ≤ i → digests_sized (take i es) ≡ true → digests_sized es ≡ true
+digests_end es i le so_far = ap digests_sized (sym (take_all i es le)) ∙ so_far
+
+-- ---- what may be written
+
+rise_blob : (c : List ℕ) → keys_rise (v.Blob c) ≡ true
+rise_blob c = ap keys_rise (sym (v.rolls-Blob c)) ∙ fold-roll-Item Bool keys_rise_step (Item-F.Blob c)
+
+rise_text : (c : List ℕ) → keys_rise (v.Text c) ≡ true
+rise_text c = ap keys_rise (sym (v.rolls-Text c)) ∙ fold-roll-Item Bool keys_rise_step (Item-F.Text c)
+
+rise_whole : (n : ℕ) → keys_rise (v.Whole n) ≡ true
+rise_whole n = ap keys_rise (sym (v.rolls-Whole n)) ∙ fold-roll-Item Bool keys_rise_step (Item-F.Whole n)
+
+nest_blob : (c : List ℕ) → nesting_of (v.Blob c) ≡ 0
+nest_blob c = ap nesting_of (sym (v.rolls-Blob c)) ∙ fold-roll-Item ℕ nesting_step (Item-F.Blob c)
+
+nest_text : (c : List ℕ) → nesting_of (v.Text c) ≡ 0
+nest_text c = ap nesting_of (sym (v.rolls-Text c)) ∙ fold-roll-Item ℕ nesting_step (Item-F.Text c)
+
+nest_whole : (n : ℕ) → nesting_of (v.Whole n) ≡ 0
+nest_whole n = ap nesting_of (sym (v.rolls-Whole n)) ∙ fold-roll-Item ℕ nesting_step (Item-F.Whole n)
+
+module _ {Y : Type 0} (con : Y → Item) where
+  each_rise : ((y : Y) → keys_rise (con y) ≡ true) → (ys : List Y) → list_all keys_rise (map con ys) ≡ true
+  each_rise h [] = refl
+  each_rise h (y ∷ ys) = rw (h y) (each_rise h ys)
+
+  each_nest : ((y : Y) → nesting_of (con y) ≡ 0) → (ys : List Y) → largest_over nesting_of (map con ys) ≡ 0
+  each_nest h [] = refl
+  each_nest h (y ∷ ys) = let first = h y in let rest = each_nest h ys in omega arith
+
+  list_rises : ((y : Y) → keys_rise (con y) ≡ true) → (ys : List Y) → keys_rise (v.List (map con ys)) ≡ true
+  list_rises h ys = rise-List (map con ys) ∙ each_rise h ys
+
+  list_nests : ((y : Y) → nesting_of (con y) ≡ 0) → (ys : List Y) → nesting_of (v.List (map con ys)) ≡ 1
+  list_nests h ys = nesting-List (map con ys) ∙ ap suc (each_nest h ys)
+
+abbrev number_of : MapEntry → ℕ
+number_of e = e.number
+
+keys_are : (es : List MapEntry) → map (λ (p : Pair Item). p.key) (map pair_of es) ≡ map number_of es
+keys_are [] = refl
+keys_are (e ∷ es) = ap (λ (z : List ℕ). e.number ∷ z) (keys_are es)
+
+values_rise : (es : List MapEntry) → list_all (λ (p : Pair Item). keys_rise p.value) (map pair_of es) ≡ true
+values_rise [] = refl
+values_rise (e ∷ es) = rw (rise_blob e.digest) (values_rise es)
+
+values_nest : (es : List MapEntry) → largest_over (λ (p : Pair Item). nesting_of p.value) (map pair_of es) ≡ 0
+values_nest [] = refl
+values_nest (e ∷ es) = let first = nest_blob e.digest in let rest = values_nest es in omega arith
+
+labels_rise : (es : List MapEntry) → rise (map number_of es) ≡ true → keys_rise (v.Map (map pair_of es)) ≡ true
+labels_rise es r = rise-Map (map pair_of es) ∙ rw (keys_are es, r, values_rise es) refl
+
+labels_nest : (es : List MapEntry) → nesting_of (v.Map (map pair_of es)) ≡ 1
+labels_nest es = nesting-Map (map pair_of es) ∙ ap suc (values_nest es)
+
+module _ (a b c d e : Item) where
+  five_rise : keys_rise a ≡ true → keys_rise b ≡ true → keys_rise c ≡ true → keys_rise d ≡ true → keys_rise e ≡ true → keys_rise (v.List (a ∷ b ∷ c ∷ d ∷ e ∷ [])) ≡ true
+  five_rise ra rb rc rd re = rise-List (a ∷ b ∷ c ∷ d ∷ e ∷ []) ∙ rw (ra, rb, rc, rd, re) refl
+
+  five_nest : nesting_of a ≤ 1 → nesting_of b ≤ 1 → nesting_of c ≤ 1 → nesting_of d ≤ 1 → nesting_of e ≤ 1 → nesting_of (v.List (a ∷ b ∷ c ∷ d ∷ e ∷ [])) ≤ 4
+  five_nest na nb nc nd ne = let n = nesting-List (a ∷ b ∷ c ∷ d ∷ e ∷ []) in omega arith
+
+pub base_rises : (value : BaseValue) (item : Item) → item ≡ base_item value → keys_rise item ≡ true
+unfolding base_item
+base_rises value item is = ap keys_rise is ∙ five_rise _ _ _ _ _ (rise_blob value.signature) (rise_blob value.key) (rise_blob value.secret) (list_rises v.Blob rise_blob value.signatures) (list_rises v.Text rise_text value.pointers)
+
+pub base_nests : (value : BaseValue) (item : Item) → item ≡ base_item value → nesting_of item ≤ 4
+unfolding base_item
+base_nests value item is =
+    let n1 = nest_blob value.signature in
+    let n2 = nest_blob value.key in
+    let n3 = nest_blob value.secret in
+    let n4 = list_nests v.Blob nest_blob value.signatures in
+    let n5 = list_nests v.Text nest_text value.pointers in
+    subst (λ (i : Item). nesting_of i ≤ 4) (sym is) (five_nest (v.Blob value.signature) (v.Blob value.key) (v.Blob value.secret) (v.List (map v.Blob value.signatures)) (v.List (map v.Text value.pointers)) (omega (arith, n1)) (omega (arith, n2)) (omega (arith, n3)) (omega (arith, n4)) (omega (arith, n5)))
+
+pub derived_rises : (value : DerivedValue) (item : Item) → rise (map number_of value.labels) ≡ true → item ≡ derived_item value → keys_rise item ≡ true
+unfolding derived_item
+derived_rises value item r is = ap keys_rise is ∙ five_rise _ _ _ _ _ (rise_blob value.signature) (rise_blob value.key) (list_rises v.Blob rise_blob value.signatures) (labels_rise value.labels r) (list_rises v.Whole rise_whole value.indexes)
+
+pub derived_nests : (value : DerivedValue) (item : Item) → item ≡ derived_item value → nesting_of item ≤ 4
+unfolding derived_item
+derived_nests value item is =
+    let n1 = nest_blob value.signature in
+    let n2 = nest_blob value.key in
+    let n3 = list_nests v.Blob nest_blob value.signatures in
+    let n4 = labels_nest value.labels in
+    let n5 = list_nests v.Whole nest_whole value.indexes in
+    subst (λ (i : Item). nesting_of i ≤ 4) (sym is) (five_nest (v.Blob value.signature) (v.Blob value.key) (v.List (map v.Blob value.signatures)) (v.Map (map pair_of value.labels)) (v.List (map v.Whole value.indexes)) (omega (arith, n1)) (omega (arith, n2)) (omega (arith, n3)) (omega (arith, n4)) (omega (arith, n5)))
+
+pub ruleset may_steps = (base_rises, base_nests, derived_rises, derived_nests)
+
+-- ---- the text of a value
+
+pub base_is_text : (value : BaseValue) (bytes text : List ℕ) → CanWriteBase value → count_of (base_item value) ≤ 100000 → IsBytes bytes → bytes ≡ base_bytes value → text ≡ text_of bytes → SpellsBase value text
+base_is_text value bytes text can le small is t =
+    record { sizes = can.0; spelled = (count_of (base_item value), spelling (base_item value), le, can.1, (subst IsBytes is small, t ∙ ap text_of is)) }
+
+pub derived_is_text : (value : DerivedValue) (bytes text : List ℕ) → CanWriteDerived value → rise value.indexes ≡ true → count_of (derived_item value) ≤ 100000 → IsBytes bytes → bytes ≡ derived_bytes value → text ≡ text_of bytes → SpellsDerived value text
+derived_is_text value bytes text can r le small is t =
+    record { sizes = can.0; rising = r; spelled = (count_of (derived_item value), spelling (derived_item value), le, can.1, (subst IsBytes is small, t ∙ ap text_of is)) }
+
+pub base_text : (value : BaseValue) (bytes seen : List ℕ) (result : Result (List ℕ) Memory) → CanWriteBase value → count_of (base_item value) ≤ 100000 → IsBytes seen → seen ≡ bytes → bytes ≡ base_bytes value → IfOk result (λ text. text ≡ text_of seen) → IfOk result (λ (text : List ℕ). SpellsBase value text)
+base_text value bytes seen (Ok text) can le small same is t = base_is_text value seen text can le small (same ∙ is) t
+base_text value bytes seen (Err e) can le small same is t = tt
+
+pub base_text_back : (value : BaseValue) (result : Result (List ℕ) Memory) → IfOk result (λ (text : List ℕ). SpellsBase value text) → IfOk result (λ (text : List ℕ). reading_base text ≡ Ok value)
+base_text_back value (Ok text) s = base_read text value s
+base_text_back value (Err e) s = tt
+
+pub derived_text : (value : DerivedValue) (bytes seen : List ℕ) (result : Result (List ℕ) Memory) → CanWriteDerived value → rise value.indexes ≡ true → count_of (derived_item value) ≤ 100000 → IsBytes seen → seen ≡ bytes → bytes ≡ derived_bytes value → IfOk result (λ text. text ≡ text_of seen) → IfOk result (λ (text : List ℕ). SpellsDerived value text)
+derived_text value bytes seen (Ok text) can r le small same is t = derived_is_text value seen text can r le small (same ∙ is) t
+derived_text value bytes seen (Err e) can r le small same is t = tt
+
+pub derived_text_back : (value : DerivedValue) (result : Result (List ℕ) Memory) → IfOk result (λ (text : List ℕ). SpellsDerived value text) → IfOk result (λ (text : List ℕ). reading_derived text ≡ Ok value)
+derived_text_back value (Ok text) s = derived_read text value s
+derived_text_back value (Err e) s = tt
+

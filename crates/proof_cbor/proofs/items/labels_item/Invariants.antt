@@ -1,0 +1,7 @@
+use Rattle.std.proofs.Common.{◌≡◌, map, take, true}
+use Rattle.cbor_core.specs.declared.item.Item.TheVariants as v
+use Rattle.proof_cbor.specs.Values.{pair_of, all_sized, digests_sized}
+use Rattle.proof_cbor.proofs.items.labels_item.Given as goal
+
+abbrev pub invariant-loop-label : goal.invariant-loop-label
+invariant-loop-label l = (l.pairs ≡ map pair_of (take l.label-index l.labels)) × (digests_sized (take l.label-index l.labels) ≡ true)

@@ -1,0 +1,96 @@
+ghost use Rattle.std.specs.Prelude.{◌≡◌, ◌≤◌, ◌++◌, true, map, IfOk, Ok};
+ghost use Rattle.base64.specs.GeneralPurpose.{IsBytes};
+ghost use Rattle.cbor_core.specs.Grammar.{Spells};
+ghost use Rattle.cbor_core.specs.Writing.{nesting_of, count_of, keys_rise, rise, spelling};
+ghost use Rattle.proof_cbor.specs.declared.value.MapEntry.{MapEntry};
+ghost use Rattle.proof_cbor.specs.Values.{text_of, base_item, derived_item, base_bytes, derived_bytes, CanWriteBase, CanWriteDerived, SpellsBase, SpellsDerived};
+ghost use Rattle.proof_cbor.specs.Reading.{reading_base, reading_derived};
+
+use crate::headers::{BASE_HEADER, DERIVED_HEADER};
+use crate::items::{item_of_base, item_of_derived};
+use crate::value::{BaseValue, DerivedValue};
+use base_types::{Memory, Text};
+use base64::engine::general_purpose::URL_SAFE_NO_PAD;
+use cbor_core::{Item, encode};
+use std::alloc::Global;
+
+/// The bytes of an item behind a header.
+fn bytes_behind(alloc: Global, header: &[u8; 3], item: &Item) -> Result<Vec<u8>, Memory>
+    requires keys { keys_rise item.now ≡ true }
+    requires nesting { nesting_of item.now ≤ 4 }
+    requires count { count_of item.now ≤ 100000 }
+    ensures written { IfOk result (λ bytes. bytes.items ≡ header.now ++ spelling item.now) }
+    ensures spelled { IfOk result (λ _. Spells 4 item.now (count_of item.now) (spelling item.now)) }
+{
+    let spelling = encode(alloc, item)?;
+    let mut bytes = Vec::new(alloc);
+    bytes.extend_from_slice(header.as_slice())?;
+    bytes.extend_from_slice(&spelling)?;
+    Ok(bytes)
+}
+
+/// The text of bytes: `u`, and base64url without padding.
+pub fn text_in(alloc: Global, bytes: &[u8]) -> Result<Text, Memory>
+    ensures text { IfOk result (λ text. text ≡ text_of bytes.now) }
+    ensures proper { IsBytes bytes.now }
+{
+    let mut text = String::new(alloc);
+    text.push('u')?;
+    URL_SAFE_NO_PAD.encode_string(bytes, &mut text)?;
+    Ok(Text::from_string(text))
+}
+
+/// The bytes of a base value.
+#[tactic(auto, using(crate::proofs::Making::may_steps))]
+pub fn bytes_of_base(alloc: Global, value: &BaseValue) -> Result<Vec<u8>, Memory>
+    requires { count_of (base_item value.now) ≤ 100000 }
+    ensures written { IfOk result (λ bytes. bytes.items ≡ base_bytes value.now) }
+    ensures spelled { IfOk result (λ _. CanWriteBase value.now) }
+{
+    let item = item_of_base(alloc, value)?;
+    bytes_behind(alloc, &BASE_HEADER, &item)
+}
+
+/// The bytes of a derived value.
+#[tactic(auto, using(crate::proofs::Making::may_steps))]
+fn bytes_of_derived(alloc: Global, value: &DerivedValue) -> Result<Vec<u8>, Memory>
+    requires labels { rise (map (λ (e : MapEntry). e.number) value.now.labels) ≡ true }
+    requires indexes { rise value.now.indexes ≡ true }
+    requires count { count_of (derived_item value.now) ≤ 100000 }
+    ensures written { IfOk result (λ bytes. bytes.items ≡ derived_bytes value.now) }
+    ensures spelled { IfOk result (λ _. CanWriteDerived value.now) }
+{
+    let item = item_of_derived(alloc, value)?;
+    bytes_behind(alloc, &DERIVED_HEADER, &item)
+}
+
+/// The text of a base value with at most 100,000 items (Data Integrity ECDSA Cryptosuites 1.0, 3.5.2).
+pub fn encode_base(alloc: Global, value: &BaseValue) -> Result<Text, Memory>
+    requires { count_of (base_item value.now) ≤ 100000 }
+    // The text is `u` and base64url of the header and the item.
+    ensures written { IfOk result (λ text. text ≡ text_of (base_bytes value.now)) }
+    // It spells the value.
+    ensures spelled { IfOk result (λ text. SpellsBase value.now text) }
+    // It reads back as the value.
+    ensures reads_back { IfOk result (λ text. reading_base text ≡ Ok value.now) }
+{
+    let bytes = bytes_of_base(alloc, value)?;
+    text_in(alloc, &bytes)
+}
+
+/// The text of a derived value with at most 100,000 items, keys of the label map counted, whose label
+/// numbers and indexes rise (Data Integrity ECDSA Cryptosuites 1.0, 3.5.7).
+pub fn encode_derived(alloc: Global, value: &DerivedValue) -> Result<Text, Memory>
+    requires labels { rise (map (λ (e : MapEntry). e.number) value.now.labels) ≡ true }
+    requires indexes { rise value.now.indexes ≡ true }
+    requires count { count_of (derived_item value.now) ≤ 100000 }
+    // The text is `u` and base64url of the header and the item.
+    ensures written { IfOk result (λ text. text ≡ text_of (derived_bytes value.now)) }
+    // It spells the value.
+    ensures spelled { IfOk result (λ text. SpellsDerived value.now text) }
+    // It reads back as the value.
+    ensures reads_back { IfOk result (λ text. reading_derived text ≡ Ok value.now) }
+{
+    let bytes = bytes_of_derived(alloc, value)?;
+    text_in(alloc, &bytes)
+}
