@@ -5,3 +5,4 @@ pub mod Rise
 pub mod Inverses
 pub mod Spelled
 pub mod Making
+pub mod Drafts

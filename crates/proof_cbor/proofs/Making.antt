@@ -4,7 +4,7 @@ use Rattle.std.specs.Prelude.{◌&&◌, max, IfOk}
 use Rattle.std.specs.List.{list_all}
 use Rattle.std.proofs.Math.Seq.{take-suc}
 use Rattle.std.proofs.lemmas.List.Folds.{list_all_more}
-use Rattle.std.proofs.lemmas.Bool.{eq-eqb}
+use Rattle.std.proofs.lemmas.Bool.{eq-eqb, and_parts}
 use Rattle.std.proofs.lemmas.List.{map-append, take_all, take_more}
 use Rattle.cbor_core.specs.declared.item.Item.{Item, fold-roll-Item}
 use Rattle.cbor_core.specs.declared.item.Item.TheOpen.{Item-F}
@@ -14,6 +14,8 @@ use Rattle.cbor_core.specs.Writing.{largest_over, nesting_step, nesting_of, coun
 use Rattle.cbor_core.proofs.Lawful.{nesting-List, nesting-Map, rise-List, rise-Map}
 use Rattle.base_types.specs.declared.memory.Memory.{Memory}
 use Rattle.proof_cbor.specs.Reading.{reading_base, reading_derived}
+use Rattle.cbor_core.proofs.Sorted.{kept}
+use Rattle.proof_cbor.specs.declared.fault.ValueFault.{ValueFault}
 use Rattle.proof_cbor.proofs.Spelled.{base_read, derived_read}
 use Rattle.proof_cbor.specs.declared.value.BaseValue.{BaseValue}
 use Rattle.proof_cbor.specs.declared.value.DerivedValue.{DerivedValue}
@@ -180,3 +182,39 @@ pub derived_text_back : (value : DerivedValue) (result : Result (List ℕ) Memor
 derived_text_back value (Ok text) s = derived_read text value s
 derived_text_back value (Err e) s = tt
 
+-- ---- what was read may be written
+
+pub base_count : (text : List ℕ) (result : Result BaseValue ValueFault) → IfOk result (λ (value : BaseValue). SpellsBase value text) → IfOk result (λ (value : BaseValue). count_of (base_item value) ≤ 100000)
+base_count text (Ok value) s = let k = kept 4 (base_item value) s.spelled.0 s.spelled.1 s.spelled.3 in omega (arith, k.counted, s.spelled.2)
+base_count text (Err e) s = tt
+
+pub derived_count : (text : List ℕ) (result : Result DerivedValue ValueFault) → IfOk result (λ (value : DerivedValue). SpellsDerived value text) → IfOk result (λ (value : DerivedValue). count_of (derived_item value) ≤ 100000)
+derived_count text (Ok value) s = let k = kept 4 (derived_item value) s.spelled.0 s.spelled.1 s.spelled.3 in omega (arith, k.counted, s.spelled.2)
+derived_count text (Err e) s = tt
+
+pub derived_indexes : (text : List ℕ) (result : Result DerivedValue ValueFault) → IfOk result (λ (value : DerivedValue). SpellsDerived value text) → IfOk result (λ (value : DerivedValue). rise value.indexes ≡ true)
+derived_indexes text (Ok value) s = s.rising
+derived_indexes text (Err e) s = tt
+
+all_fourth : (a b c d e : Bool) → (a && (b && (c && (d && (e && true))))) ≡ true → d ≡ true
+all_fourth false b c d e h = absurd cc
+all_fourth true false c d e h = absurd cc
+all_fourth true true false d e h = absurd cc
+all_fourth true true true false e h = absurd cc
+all_fourth true true true true e h = refl
+
+fourth_rises : (a b c d e : Item) → keys_rise (v.List (a ∷ b ∷ c ∷ d ∷ e ∷ [])) ≡ true → keys_rise d ≡ true
+fourth_rises a b c d e h = all_fourth (keys_rise a) (keys_rise b) (keys_rise c) (keys_rise d) (keys_rise e) (sym (rise-List (a ∷ b ∷ c ∷ d ∷ e ∷ [])) ∙ h)
+
+labels_rose : (es : List MapEntry) → keys_rise (v.Map (map pair_of es)) ≡ true → rise (map number_of es) ≡ true
+labels_rose es h =
+    let p = and_parts (rise (map (λ (p : Pair Item). p.key) (map pair_of es))) (list_all (λ (p : Pair Item). keys_rise p.value) (map pair_of es)) (sym (rise-Map (map pair_of es)) ∙ h) in
+    ap rise (sym (keys_are es)) ∙ p.0
+
+value_rose : (value : DerivedValue) → keys_rise (derived_item value) ≡ true → rise (map number_of value.labels) ≡ true
+unfolding derived_item
+value_rose value h = labels_rose value.labels (fourth_rises (v.Blob value.signature) (v.Blob value.key) (v.List (map v.Blob value.signatures)) (v.Map (map pair_of value.labels)) (v.List (map v.Whole value.indexes)) h)
+
+pub derived_labels : (text : List ℕ) (result : Result DerivedValue ValueFault) → IfOk result (λ (value : DerivedValue). SpellsDerived value text) → IfOk result (λ (value : DerivedValue). rise (map number_of value.labels) ≡ true)
+derived_labels text (Ok value) s = value_rose value (kept 4 (derived_item value) s.spelled.0 s.spelled.1 s.spelled.3).keys
+derived_labels text (Err e) s = tt

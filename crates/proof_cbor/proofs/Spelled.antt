@@ -51,12 +51,14 @@ base_found item value e =
 base_again : (value : BaseValue) → BaseSizes value → base_of (base_item value) ≡ Ok value
 unfolding base_of base_item
 base_again value s =
-    rw (parts_again (v.Blob value.signature) (v.Blob value.key) (v.Blob value.secret) (v.List (map v.Blob value.signatures)) (v.List (map v.Text value.pointers)),
+    rw (
+      parts_again (v.Blob value.signature) (v.Blob value.key) (v.Blob value.secret) (v.List (map v.Blob value.signatures)) (v.List (map v.Text value.pointers)),
       blob_again part.BaseSignature 64 value.signature s.signature,
       blob_again part.PublicKey 35 value.key s.key,
       blob_again part.HmacKey 32 value.secret s.secret,
       blobs_again part.Signatures 64 value.signatures s.signatures,
-      texts_again part.Pointers value.pointers) refl
+      texts_again part.Pointers value.pointers,
+    ) refl
 
 -- ---- the item of a derived value
 
@@ -88,13 +90,15 @@ derived_found item value e =
 derived_again : (value : DerivedValue) → DerivedSizes value → rise value.indexes ≡ true → derived_of (derived_item value) ≡ Ok value
 unfolding derived_of derived_item
 derived_again value s rising =
-    rw (parts_again (v.Blob value.signature) (v.Blob value.key) (v.List (map v.Blob value.signatures)) (v.Map (map pair_of value.labels)) (v.List (map v.Whole value.indexes)),
+    rw (
+      parts_again (v.Blob value.signature) (v.Blob value.key) (v.List (map v.Blob value.signatures)) (v.Map (map pair_of value.labels)) (v.List (map v.Whole value.indexes)),
       blob_again part.BaseSignature 64 value.signature s.signature,
       blob_again part.PublicKey 35 value.key s.key,
       blobs_again part.Signatures 64 value.signatures s.signatures,
       labels_again part.LabelMap 32 value.labels s.digests,
       wholes_again part.Indexes value.indexes,
-      rising) refl
+      rising,
+    ) refl
 
 -- ---- the item behind a header
 
@@ -173,4 +177,3 @@ derived_read text value s =
 
 pub derived_only : (text : List ℕ) (result : Result DerivedValue ValueFault) (value : DerivedValue) → SpellsDerived value text → Gives (λ x. x) result (reading_derived text) → Gives (λ x. x) result (Ok value)
 derived_only text result value s g = subst (λ (r : Result DerivedValue ValueFault). Gives (λ x. x) result r) (derived_read text value s) g
-

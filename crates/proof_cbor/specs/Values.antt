@@ -95,3 +95,7 @@ CanWriteDerived value = DerivedSizes value × Spells 4 (derived_item value) (cou
 -- the base value with another signature
 abbrev pub signed : BaseValue → List ℕ → BaseValue
 signed value signature = record value { signature = signature }
+
+-- the bytes of a draft are those of the value
+abbrev pub IsDraft : BaseValue → List ℕ → Type 0
+IsDraft value bytes = (length value.signature ≡ 64) × (bytes ≡ base_bytes value)

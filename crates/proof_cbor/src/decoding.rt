@@ -1,7 +1,9 @@
-ghost use Rattle.std.specs.Prelude.{◌≡◌, IfOk, Ok};
+ghost use Rattle.std.specs.Prelude.{◌≡◌, ◌≤◌, true, map, IfOk, Ok};
+ghost use Rattle.cbor_core.specs.Writing.{count_of, rise};
+ghost use Rattle.proof_cbor.specs.declared.value.MapEntry.{MapEntry};
 ghost use Rattle.proof_cbor.specs.declared.value.BaseValue.{BaseValue};
 ghost use Rattle.proof_cbor.specs.declared.value.DerivedValue.{DerivedValue};
-ghost use Rattle.proof_cbor.specs.Values.{SpellsBase, SpellsDerived};
+ghost use Rattle.proof_cbor.specs.Values.{base_item, derived_item, SpellsBase, SpellsDerived};
 ghost use Rattle.proof_cbor.specs.Reading.{Gives, base_of, derived_of, reading_base, reading_derived};
 
 use crate::bytes::{bytes_in, item_in};
@@ -82,6 +84,8 @@ fn read_derived(alloc: Global, text: &str) -> Result<DerivedValue, ValueFault>
 pub fn decode_base(alloc: Global, text: &str) -> Result<BaseValue, ValueFault>
     // What is read is spelled by the text, all of it.
     ensures found { IfOk result (λ value. SpellsBase value text.now) }
+    // It may be written: it keeps the limit on items.
+    ensures count { IfOk result (λ value. count_of (base_item value) ≤ 100000) }
     // What is spelled within the limits is read, unless memory runs out.
     ensures only { (value : BaseValue) → SpellsBase value text.now → Gives (λ x. x) result (Ok value) }
     // Which value, or which refusal, it is.
@@ -96,6 +100,10 @@ pub fn decode_base(alloc: Global, text: &str) -> Result<BaseValue, ValueFault>
 pub fn decode_derived(alloc: Global, text: &str) -> Result<DerivedValue, ValueFault>
     // What is read is spelled by the text, all of it.
     ensures found { IfOk result (λ value. SpellsDerived value text.now) }
+    // It may be written: its labels and its indexes rise, and it keeps the limit on items.
+    ensures labels { IfOk result (λ value. rise (map (λ (e : MapEntry). e.number) value.labels) ≡ true) }
+    ensures indexes { IfOk result (λ value. rise value.indexes ≡ true) }
+    ensures count { IfOk result (λ value. count_of (derived_item value) ≤ 100000) }
     // What is spelled within the limits is read, unless memory runs out.
     ensures only { (value : DerivedValue) → SpellsDerived value text.now → Gives (λ x. x) result (Ok value) }
     // Which value, or which refusal, it is.

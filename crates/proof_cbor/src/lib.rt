@@ -8,6 +8,7 @@
 
 mod bytes;
 mod decoding;
+mod draft;
 mod encoding;
 mod fault;
 mod headers;
@@ -20,6 +21,7 @@ mod value;
 pub use base_types::{Memory, Sequence, Text};
 pub use cbor_core::CborFault;
 pub use decoding::{decode_base, decode_derived};
+pub use draft::{BaseDraft, draft_base};
 pub use encoding::{encode_base, encode_derived};
 pub use fault::{Part, ValueFault};
 pub use value::{BaseValue, DerivedValue, MapEntry};
