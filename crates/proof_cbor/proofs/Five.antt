@@ -1,5 +1,5 @@
 -- The five parts of a list.
-use Rattle.std.proofs.Common.{◌≡◌, ℕ, ◌<◌, List, [], ◌∷◌, length, get_or, Option, Some, None, refl, arith, ap}
+use Rattle.std.proofs.Common.{◌≡◌, List, [], ◌∷◌, length, get_or, Some, None, refl, arith}
 use Rattle.cbor_core.specs.declared.item.Item.{Item}
 use Rattle.proof_cbor.specs.Reading.{five_of}
 

@@ -6,13 +6,13 @@ use Rattle.std.proofs.lemmas.Bool.{eqb-true, eq-eqb}
 use Rattle.cbor_core.specs.declared.item.Item.{Item, out-Item}
 use Rattle.cbor_core.specs.declared.item.Item.TheVariants as v
 use Rattle.cbor_core.specs.declared.item.Pair.{Pair}
-use Rattle.cbor_core.proofs.Lawful.{by_cases, Cases}
+use Rattle.cbor_core.proofs.Lawful.{by_cases}
 use Rattle.proof_cbor.specs.declared.fault.Part.{Part}
 use Rattle.proof_cbor.specs.declared.fault.ValueFault.{ValueFault}
 use Rattle.proof_cbor.specs.declared.fault.ValueFault.TheVariants as fault
 use Rattle.proof_cbor.specs.declared.value.MapEntry.{MapEntry}
 use Rattle.proof_cbor.specs.Values.{all_sized, pair_of}
-use Rattle.proof_cbor.specs.Reading.{◌>>=◌, blob_level, text_level, whole_level, list_level, map_level, blob_kind, text_kind, whole_kind, entry_of, entry_kind, digest_size, each_is, one_of, ones_of, sized, blob_of, blobs_of, texts_of, wholes_of, labels_of, Five, five_of, parts_of}
+use Rattle.proof_cbor.specs.Reading.{◌>>=◌, blob_level, text_level, whole_level, list_level, map_level, blob_kind, text_kind, whole_kind, entry_of, entry_kind, digest_size, each_is, ones_of, sized, blob_of, blobs_of, texts_of, wholes_of, labels_of, Five, five_of, parts_of}
 use Rattle.proof_cbor.proofs.Each.{parts}
 
 -- ---- results

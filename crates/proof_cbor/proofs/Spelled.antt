@@ -1,6 +1,6 @@
 -- What is read is spelled by the text, and what is spelled is read.
-use Rattle.std.proofs.Common.{◌≡◌, ℕ, ◌+◌, ◌≤◌, ◌<◌, Bool, true, cond, List, [], ◌∷◌, ◌++◌, length, take, drop, map, Result, Ok, Err, refl, sym, ap, subst, ◌∙◌, arith}
-use Rattle.std.specs.Prelude.{slice_index, IfOk}
+use Rattle.std.proofs.Common.{◌≡◌, ℕ, ◌+◌, ◌≤◌, ◌<◌, true, List, ◌++◌, length, take, drop, map, Result, Ok, Err, refl, sym, ap, subst, ◌∙◌}
+use Rattle.std.specs.Prelude.{IfOk}
 use Rattle.std.specs.Str.{bytes_eq}
 use Rattle.std.proofs.lemmas.Slice.Eq.{bytes_eq-Decides}
 use Rattle.std.proofs.lemmas.List.{take-append-drop, get_or-drop, take_at, drop_at}
@@ -20,7 +20,7 @@ use Rattle.proof_cbor.specs.declared.fault.ValueFault.TheVariants as fault
 use Rattle.proof_cbor.specs.declared.value.BaseValue.{BaseValue}
 use Rattle.proof_cbor.specs.declared.value.DerivedValue.{DerivedValue}
 use Rattle.proof_cbor.specs.Values.{base_header, derived_header, text_of, IsText, pair_of, base_item, derived_item, BaseSizes, DerivedSizes, SpellsBehind, SpellsBase, SpellsDerived}
-use Rattle.proof_cbor.specs.Reading.{◌>>=◌, Gives, blob_of, blobs_of, texts_of, wholes_of, labels_of, parts_of, base_of, derived_of, decoded, bytes_of, behind, item_of, item_behind, reading_base, reading_derived}
+use Rattle.proof_cbor.specs.Reading.{Gives, blob_of, blobs_of, texts_of, wholes_of, labels_of, parts_of, base_of, derived_of, decoded, bytes_of, behind, item_of, item_behind, reading_base, reading_derived}
 use Rattle.proof_cbor.proofs.Inverses.{same_ok, went_on, goes_on, ended, blob_found, blob_again, blobs_found, blobs_again, texts_found, texts_again, wholes_found, wholes_again, labels_found, labels_again, parts_found, parts_again, five_joined}
 
 -- ---- the item of a base value

@@ -12,11 +12,11 @@ use Rattle.proof_cbor.specs.declared.value.BaseValue.{BaseValue}
 use Rattle.proof_cbor.specs.declared.value.DerivedValue.{DerivedValue}
 use Rattle.proof_cbor.specs.declared.value.MapEntry.{MapEntry}
 
--- the three bytes before a base value (3.5.2, step 2)
+-- the three bytes before a base value (3.5.2)
 abbrev pub base_header : List ℕ
 base_header = 0xd9 ∷ 0x5d ∷ 0x00 ∷ []
 
--- the three bytes before a derived value (3.5.7, step 2)
+-- the three bytes before a derived value (3.5.7)
 abbrev pub derived_header : List ℕ
 derived_header = 0xd9 ∷ 0x5d ∷ 0x01 ∷ []
 
@@ -40,22 +40,22 @@ digests_sized entries = list_all (λ (e : MapEntry). length e.digest == 32) entr
 abbrev pub pair_of : MapEntry → Pair Item
 pair_of entry = record { key = entry.number; value = v.Blob entry.digest }
 
--- the list of five parts that a base value is (3.5.2, step 3)
+-- the list of five parts that a base value is (3.5.2)
 unfoldable pub base_item : BaseValue → Item
 base_item value = v.List (v.Blob value.signature ∷ v.Blob value.key ∷ v.Blob value.secret ∷ v.List (map v.Blob value.signatures) ∷ v.List (map v.Text value.pointers) ∷ [])
 
--- the list of five parts that a derived value is (3.5.7, step 3)
+-- the list of five parts that a derived value is (3.5.7)
 unfoldable pub derived_item : DerivedValue → Item
 derived_item value = v.List (v.Blob value.signature ∷ v.Blob value.key ∷ v.List (map v.Blob value.signatures) ∷ v.Map (map pair_of value.labels) ∷ v.List (map v.Whole value.indexes) ∷ [])
 
--- the byte strings of a base value have their lengths (3.5.3, step 7)
+-- the byte strings of a base value have their lengths (3.5.3)
 pub record BaseSizes (value : BaseValue) : Type 0 where
   pub signature : length value.signature ≡ 64
   pub key : length value.key ≡ 35
   pub secret : length value.secret ≡ 32
   pub signatures : all_sized 64 value.signatures ≡ true
 
--- the byte strings of a derived value have their lengths (3.5.8, step 7)
+-- the byte strings of a derived value have their lengths (3.5.8)
 pub record DerivedSizes (value : DerivedValue) : Type 0 where
   pub signature : length value.signature ≡ 64
   pub key : length value.key ≡ 35

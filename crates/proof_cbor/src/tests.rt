@@ -1,5 +1,6 @@
 use super::*;
 use base64::engine::general_purpose::URL_SAFE_NO_PAD;
+use std::alloc::Global;
 use std::test::*;
 
 /// A base value whose signature, key and secret are zeros with a last byte of 1, with the one pointer ``.
@@ -14,31 +15,29 @@ const DERIVED: &str =
 #[derive(Drop)]
 enum Spelled {
     /// A byte string of so many zeros.
-    Zeros(usize),
+    Zeros(u8),
     /// These bytes.
     Raw(&'static [u8]),
 }
 
 /// The text of a value with these parts.
-fn text_of(rt: &HostRuntime, kind: u8, parts: &[Spelled]) -> String {
-    let mut bytes = Vec::new(rt.alloc());
-    let head = [0xd9, 0x5d, kind, 0x80 + parts.len() as u8];
-    bytes.extend_from_slice(&head).unwrap();
+fn text_of(alloc: Global, head: [u8; 4], parts: &[Spelled]) -> Result<String, Memory> {
+    let mut bytes = Vec::new(alloc);
+    bytes.extend_from_slice(head.as_slice())?;
     for part in parts {
         match part {
             Spelled::Zeros(count) => {
-                let head = [0x58, *count as u8];
-                bytes.extend_from_slice(&head).unwrap();
+                bytes.extend_from_slice([0x58, *count].as_slice())?;
                 for _ in 0..*count {
-                    bytes.push(0).unwrap();
+                    bytes.push(0)?;
                 }
             }
-            Spelled::Raw(raw) => bytes.extend_from_slice(raw).unwrap(),
+            Spelled::Raw(raw) => bytes.extend_from_slice(raw)?,
         }
     }
-    let mut text = String::from_str(rt.alloc(), "u").unwrap();
-    URL_SAFE_NO_PAD.encode_string(&bytes, &mut text).unwrap();
-    text
+    let mut text = String::from_str(alloc, "u")?;
+    URL_SAFE_NO_PAD.encode_string(&bytes, &mut text)?;
+    Ok(text)
 }
 
 #[test]
@@ -172,7 +171,9 @@ fn parts_of_another_kind_or_length(rt: HostRuntime) {
         ),
     ];
     for (parts, want) in base {
-        let text = text_of(&rt, 0, &parts);
+        let text = text_of(rt.alloc(), [0xd9, 0x5d, 0x00, 0x85], parts.as_slice()).expect(
+            &rt, "memory",
+        );
         assert!(rt; decode_base(rt.alloc(), &text).err() == want, "at {text}");
     }
     let derived: [([Spelled; 5], Option<ValueFault>); 13] = [
@@ -308,14 +309,16 @@ fn parts_of_another_kind_or_length(rt: HostRuntime) {
         ),
     ];
     for (parts, want) in derived {
-        let text = text_of(&rt, 1, &parts);
+        let text = text_of(rt.alloc(), [0xd9, 0x5d, 0x01, 0x85], parts.as_slice()).expect(
+            &rt, "memory",
+        );
         assert!(rt;
             decode_derived(rt.alloc(), &text).err() == want,
             "at {text}"
         );
     }
     let four = [Zeros(64), Zeros(35), Zeros(32), Raw(&[0x80])];
-    let text = text_of(&rt, 0, &four);
+    let text = text_of(rt.alloc(), [0xd9, 0x5d, 0x00, 0x84], four.as_slice()).expect(&rt, "memory");
     assert!(rt; decode_base(rt.alloc(), &text).err() == Some(ValueFault::Shape(Part::Array)));
 }
 
@@ -333,17 +336,17 @@ const RISING: &str =
 
 #[test]
 fn values_are_written_back(rt: HostRuntime) {
-    let base = decode_base(rt.alloc(), BASE).unwrap();
+    let base = decode_base(rt.alloc(), BASE).expect(&rt, "a value");
     assert!(rt; base.signatures.is_empty() && base.pointers.len() == 1);
     assert!(rt; base.key[0] == 0 && base.key[34] == 1);
-    let text = encode_base(rt.alloc(), &base).unwrap();
+    let text = encode_base(rt.alloc(), &base).expect(&rt, "a value");
     assert!(rt; text.as_str() == BASE);
-    let draft = draft_base(rt.alloc(), &base).unwrap();
+    let draft = draft_base(rt.alloc(), &base).expect(&rt, "a value");
     let text = draft.finish(&[255; 64]);
     assert!(rt; text.as_str() == SIGNED);
     for (read, written) in [(DERIVED, DERIVED), (FALLING, RISING), (RISING, RISING)] {
-        let derived = decode_derived(rt.alloc(), read).unwrap();
-        let text = encode_derived(rt.alloc(), &derived).unwrap();
+        let derived = decode_derived(rt.alloc(), read).expect(&rt, "a value");
+        let text = encode_derived(rt.alloc(), &derived).expect(&rt, "a value");
         assert!(rt; text.as_str() == written, "at {read}");
     }
 }

@@ -1,4 +1,3 @@
-use Rattle.std.proofs.Common.{◌≡◌}
 use Rattle.proof_cbor.proofs.Making.{base_text, base_text_back}
 use Rattle.proof_cbor.proofs.encoding.encode_base.Goals as goal
 

@@ -1,4 +1,3 @@
-use Rattle.std.proofs.Common.{◌≡◌}
 use Rattle.proof_cbor.proofs.Making.{derived_text, derived_text_back}
 use Rattle.proof_cbor.proofs.encoding.encode_derived.Goals as goal
 

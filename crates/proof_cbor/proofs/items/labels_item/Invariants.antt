@@ -1,6 +1,5 @@
 use Rattle.std.proofs.Common.{◌≡◌, map, take, true}
-use Rattle.cbor_core.specs.declared.item.Item.TheVariants as v
-use Rattle.proof_cbor.specs.Values.{pair_of, all_sized, digests_sized}
+use Rattle.proof_cbor.specs.Values.{pair_of, digests_sized}
 use Rattle.proof_cbor.proofs.items.labels_item.Given as goal
 
 abbrev pub invariant-loop-label : goal.invariant-loop-label

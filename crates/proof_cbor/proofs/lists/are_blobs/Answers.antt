@@ -1,4 +1,4 @@
-use Rattle.std.proofs.Common.{◌≡◌, sym}
+use Rattle.std.proofs.Common.{sym}
 use Rattle.std.specs.Prelude.{is_some}
 use Rattle.proof_cbor.specs.Reading.{blob_kind, each_is}
 use Rattle.proof_cbor.proofs.Each.{all_more, all_stops, all_end}

@@ -1,4 +1,4 @@
-use Rattle.std.proofs.Common.{◌≡◌, sym, ap}
+use Rattle.std.proofs.Common.{sym, ap}
 use Rattle.std.specs.Prelude.{is_some}
 use Rattle.proof_cbor.specs.Reading.{entry_of, entry_kind, each_is}
 use Rattle.std.specs.Option.{option_map}

@@ -1,4 +1,4 @@
-use Rattle.std.proofs.Common.{◌≡◌, [], sym}
+use Rattle.std.proofs.Common.{[]}
 use Rattle.std.proofs.lemmas.Result.{err_from_is_err_and}
 use Rattle.proof_cbor.specs.Reading.{ones_from, entry_kind, digest_size}
 use Rattle.proof_cbor.proofs.Each.{ones_more, ones_fail, ones_end}

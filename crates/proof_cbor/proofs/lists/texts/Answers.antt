@@ -1,6 +1,4 @@
-use Rattle.std.proofs.Common.{◌≡◌, refl, ap, sym, ◌∙◌, Some}
-use Rattle.std.specs.Option.{ok_or}
-use Rattle.proof_cbor.specs.declared.fault.ValueFault.TheVariants.{Shape}
+use Rattle.std.proofs.Common.{refl, ap, sym, ◌∙◌, Some}
 use Rattle.proof_cbor.specs.Reading.{text_kind, each_is}
 use Rattle.proof_cbor.proofs.Each.{each_more, each_stops, each_end}
 use Rattle.proof_cbor.proofs.lists.texts.Goals as goal
