@@ -35,6 +35,9 @@ pub fn sign_for_record<D: KeyDevice>(
 ) -> Result<Signature, DeviceError>
     ensures grew { D.exact device.old ≡ true → IfOk result (λ signature. (entries : List SignedEntry) × (D.signed device.old ≡ Some entries) × (D.signed device.new ≡ Some (entries ++ entry key.now bytes.now signature ∷ []))) }
     ensures accepts { D.exact device.old ≡ true → IfSome (D.signed device.new) (λ entries. AcceptsExactly entries (D.accepts device.new)) }
+    ensures no_key { IsErrOf result NoKey → D.owns device.old key.now ≡ false }
+    ensures failed { IsErrOf result Failed → HasRisen (D.faults device.old) (D.faults device.new) }
+    ensures counted { D.faults device.old ≤ D.faults device.new }
 {
     device.sign(key, bytes)
 }
