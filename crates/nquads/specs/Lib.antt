@@ -3,3 +3,4 @@ pub mod Renaming
 pub mod Spelling
 pub mod Lines
 pub mod Texts
+pub mod FirstDegree

@@ -8,6 +8,7 @@
 //! these: spellings, lines and texts have one reading.
 #![tactic(auto)]
 
+mod hashes;
 mod labels;
 pub mod laws;
 mod lines;
@@ -17,6 +18,7 @@ mod spelling;
 mod tests;
 
 pub use base_types::{Memory, Sequence, Text};
+pub use hashes::BlankHash;
 pub use labels::{TextLabel, TextLabels};
 pub use lines::{line_of, names, names_all, text_of};
 pub use quads::{TextQuad, TextQuads};
