@@ -1,0 +1,4 @@
+pub mod FilterLemmas
+pub mod GroupLemmas
+pub mod MarkLemmas
+pub mod HashLemmas

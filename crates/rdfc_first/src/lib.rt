@@ -1,0 +1,14 @@
+//! First-degree hashes of the blank nodes of a dataset (RDF Dataset Canonicalization, 4.6).
+//!
+//! `first_hashes` writes each statement once for each blank node in it, with that node as `_:a` and the
+//! others as `_:z`, sorts these lines by node, and digests each node's lines. It takes n log n steps.
+#![tactic(auto)]
+
+mod grouping;
+mod marking;
+mod seen;
+#[cfg(test)]
+mod tests;
+
+pub use grouping::first_hashes;
+pub use nquads::{BlankHash, Memory, TextQuads};
