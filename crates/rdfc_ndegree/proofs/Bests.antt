@@ -1,0 +1,203 @@
+-- The best of some trails: how it changes with one more, and what it says of all of them.
+use Rattle.std.proofs.Common.{◌≡◌, ℕ, ◌+◌, ◌-◌, ◌^◌, ◌<◌, min, max, List, [], ◌∷◌, ◌++◌, All, Contains, Bool, true, false, ◌||◌, cond, ◌==◌, nat_lt, count_by, refl, sym, ap, ◌∙◌, subst, inl, inr, ⊎_elim, arith, append_assoc, append-nil, ap₂, Ordering}
+use Rattle.std.specs.Str.{bytes_eq}
+use Rattle.std.specs.List.{list_any, starts_with}
+use Rattle.std.proofs.lemmas.Bool.{false≢true}
+use Rattle.std.proofs.lemmas.Bool.Decides.{nat_tests}
+use Rattle.std.proofs.lemmas.Cmp.{tied_itself}
+use Rattle.std.specs.Cmp.Lexicographic.{slice_cmp, nat_list_cmp_total}
+use Rattle.std.specs.Ordering.{nat_cmp, is_eq, is_le, ordering_reverse}
+use Rattle.std.proofs.lemmas.List.Elements.{All-nil, All-push, All-contains, All-weaker, Contains-push, Contains-append_left}
+use Rattle.std.proofs.lemmas.List.Folds.{list_any-append}
+use Rattle.std.proofs.lemmas.List.Sums.{sum_by_push, sum_by-cons}
+use Rattle.base_types.specs.Order.{is_upto}
+use Rattle.base_types.proofs.Lists.{Contains-here, Contains-there, Contains-cons_cases, Contains-nil}
+use Rattle.base_types.proofs.Orders.{is_upto-refl, is_upto-back, is_upto-transitive, bytes_eq-cmp, by_cmp, text_cmp, is_upto-cmp}
+use Rattle.std.proofs.lemmas.Map.Lookups.{exact_bytes}
+use Rattle.std.specs.declared.cmp.Ordering.TheVariants.{Less, Equal, Greater}
+use Rattle.rdfc_ndegree.specs.NDegree.{Trail, counts, meets_tie, total_work, greatest_depth}
+use Rattle.rdfc_ndegree.specs.Evaluations.{all_ties, IsAmong, IsBestOf, IsPlaceOf}
+
+bytes_eq-itself : (x : List ℕ) → bytes_eq x x ≡ true
+bytes_eq-itself x = bytes_eq-cmp x x ∙ ap is_eq (tied_itself nat_list_cmp_total x)
+
+pub same_text : (x y : List ℕ) → bytes_eq x y ≡ true → x ≡ y
+same_text x y e = exact_bytes x y (by_cmp (text_cmp x y ≡ Equal) x y (λ f. let a = ap is_eq f in let b = bytes_eq-cmp x y in absurd (cc)) (λ f. f) (λ f. let a = ap is_eq f in let b = bytes_eq-cmp x y in absurd (cc)))
+
+apart : (path other least : List ℕ) → is_upto least other ≡ true → is_upto least path ≡ false → bytes_eq other path ≡ false
+apart path other least below not = go (bytes_eq other path) refl
+  where
+    go : (b : Bool) → bytes_eq other path ≡ b → bytes_eq other path ≡ false
+    go false e = e
+    go true e = absurd (false≢true (sym not ∙ ap (is_upto least) (sym (same_text other path e)) ∙ below))
+
+many : (n : ℕ) → nat_lt 1 (min n (2 ^ 64 - 1)) ≡ nat_lt 1 n
+many n = grind (arith, nat_tests)
+
+pub place_of : (least path : List ℕ) (sharing : ℕ) (o : Ordering) → 0 < sharing → o ≡ slice_cmp nat_cmp path least → IsPlaceOf least sharing path o
+place_of least path sharing Less some e =
+    let b : text_cmp least path ≡ Greater = nat_list_cmp_total.antisymm least path ∙ ap ordering_reverse (sym e) in
+    inr (is_upto-cmp least path ∙ ap is_le b)
+place_of least path sharing Equal some e = (some, exact_bytes path least (sym e))
+place_of least path sharing Greater some e =
+    let b : text_cmp least path ≡ Less = nat_list_cmp_total.antisymm least path ∙ ap ordering_reverse (sym e) in
+    (some, is_upto-cmp least path ∙ ap is_le b, bytes_eq-cmp path least ∙ ap is_eq (sym e))
+
+module _ {B : Type 0} where
+  -- ---- sums over trails
+
+  pub all_ties-push : (ts : List (Trail B)) (t : Trail B) → all_ties (ts ++ t ∷ []) ≡ all_ties ts ++ t.ties
+  all_ties-push [] t = append-nil t.ties
+  all_ties-push (u ∷ us) t = ap (λ xs. u.ties ++ xs) (all_ties-push us t) ∙ sym (append_assoc u.ties (all_ties us) t.ties)
+
+  pub total_work-append : (ts us : List (Trail B)) → total_work (ts ++ us) ≡ total_work ts + total_work us
+  total_work-append [] us = omega arith
+  total_work-append (t ∷ ts) us = let e : total_work (ts ++ us) ≡ total_work ts + total_work us = total_work-append ts us in omega arith
+
+  pub greatest_depth-append : (ts us : List (Trail B)) → greatest_depth (ts ++ us) ≡ max (greatest_depth ts) (greatest_depth us)
+  greatest_depth-append [] us = omega arith
+  greatest_depth-append (t ∷ ts) us = let e : greatest_depth (ts ++ us) ≡ max (greatest_depth ts) (greatest_depth us) = greatest_depth-append ts us in omega arith
+
+  any_counts : (least : List ℕ) (ts : List (Trail B)) → list_any (λ before. starts_with ◌==◌ least before) (all_ties ts) ≡ list_any (λ (t : Trail B). counts least t.ties) ts
+  any_counts least [] = refl
+  any_counts least (t ∷ ts) = list_any-append (λ before. starts_with ◌==◌ least before) t.ties (all_ties ts) ∙ ap (λ b. counts least t.ties || b) (any_counts least ts)
+
+  -- ---- how many have a path
+
+  abbrev pub with_path : List ℕ → List (Trail B) → ℕ
+  with_path path ts = count_by (λ (t : Trail B). bytes_eq t.path path) ts
+
+  one : List ℕ → Trail B → ℕ
+  one path t = cond (bytes_eq t.path path) 1 0
+
+  with_path-cons : (path : List ℕ) (t : Trail B) (ts : List (Trail B)) → with_path path (t ∷ ts) ≡ one path t + with_path path ts
+  unfolding one
+  with_path-cons path t ts = sum_by-cons (λ (u : Trail B). cond (bytes_eq u.path path) 1 0) t ts
+
+  with_path-push : (path : List ℕ) (ts : List (Trail B)) (t : Trail B) → with_path path (ts ++ t ∷ []) ≡ with_path path ts + one path t
+  unfolding one
+  with_path-push path ts t = sum_by_push (λ (u : Trail B). cond (bytes_eq u.path path) 1 0) ts t
+
+  one-has : (path : List ℕ) (t : Trail B) → bytes_eq t.path path ≡ true → one path t ≡ 1
+  unfolding one
+  one-has path t e = rw e refl
+
+  one-lacks : (path : List ℕ) (t : Trail B) → bytes_eq t.path path ≡ false → one path t ≡ 0
+  unfolding one
+  one-lacks path t e = rw e refl
+
+  with_path-some : (path : List ℕ) (ts : List (Trail B)) (b : Trail B) → Contains ts b → path ≡ b.path → 0 < with_path path ts
+  with_path-some path [] b k e = absurd (Contains-nil b k)
+  with_path-some path (t ∷ ts) b k e =
+      let n = with_path-cons path t ts in
+      ⊎_elim
+      (λ s. let h : one path t ≡ 1 = one-has path t (ap (bytes_eq t.path) (e ∙ ap (λ (z : Trail B). z.path) (sym s)) ∙ bytes_eq-itself t.path) in omega arith)
+      (λ l. let h : 0 < with_path path ts = with_path-some path ts b l e in omega arith)
+      (Contains-cons_cases t ts b k)
+
+  with_path-none : (path : List ℕ) (ts : List (Trail B)) → ((t : Trail B) → Contains ts t → bytes_eq t.path path ≡ false) → with_path path ts ≡ 0
+  with_path-none path [] h = refl
+  with_path-none path (t ∷ ts) h =
+      let n = with_path-cons path t ts in
+      let first : one path t ≡ 0 = one-lacks path t (h t (Contains-here t ts)) in
+      let rest : with_path path ts ≡ 0 = with_path-none path ts (λ u k. h u (Contains-there t ts u k)) in
+      omega arith
+
+  -- ---- the best, with one more trail
+
+  pub best-start : IsBestOf {B = B} [] [] [] 0 []
+  best-start = record { among = inl refl; least = All-nil (λ (t : Trail B). is_upto [] t.path ≡ true); sharing_is = refl; ties_are = refl }
+
+  none_yet : (ts : List (Trail B)) (path : List ℕ) (issuer : List B) (sharing : ℕ) (ties : List (List ℕ)) → IsBestOf ts path issuer sharing ties → sharing ≡ 0 → ts ≡ []
+  none_yet ts path issuer sharing ties b z =
+      ⊎_elim (λ e. e) (λ a. let some : 0 < with_path path ts = with_path-some path ts a.best a.contains a.path_is in let n = b.sharing_is in absurd (omega arith)) b.among
+
+  shared : (ts : List (Trail B)) (path : List ℕ) (issuer : List B) (sharing : ℕ) (ties : List (List ℕ)) → IsBestOf ts path issuer sharing ties → 0 < sharing → IsAmong ts path issuer
+  shared ts path issuer sharing ties b some =
+      ⊎_elim (λ e. let none : with_path path ts ≡ 0 = ap (with_path path) e in let n = b.sharing_is in absurd (omega arith)) (λ a. a) b.among
+
+  pub best-first : (ts : List (Trail B)) (t : Trail B) (path : List ℕ) (issuer : List B) (sharing : ℕ) (ties : List (List ℕ)) → IsBestOf ts path issuer sharing ties → sharing ≡ 0 → IsBestOf (ts ++ t ∷ []) t.path t.issuer 1 (ties ++ t.ties)
+  best-first ts t path issuer sharing ties b z =
+      let none : ts ≡ [] = none_yet ts path issuer sharing ties b z in
+      let upto : All (λ (u : Trail B). is_upto t.path u.path ≡ true) ts = subst (All (λ (u : Trail B). is_upto t.path u.path ≡ true)) (sym none) (All-nil (λ (u : Trail B). is_upto t.path u.path ≡ true)) in
+      let before : with_path t.path ts ≡ 0 = ap (with_path t.path) none in
+      let here : one t.path t ≡ 1 = one-has t.path t (bytes_eq-itself t.path) in
+      let n = with_path-push t.path ts t in
+      record {
+        among = inr record { best = t; contains = Contains-push ts t; path_is = refl; issuer_is = refl };
+        least = All-push (λ (u : Trail B). is_upto t.path u.path ≡ true) ts t upto (is_upto-refl t.path);
+        sharing_is = omega arith;
+        ties_are = ap (λ xs. xs ++ t.ties) b.ties_are ∙ sym (all_ties-push ts t);
+      }
+
+  pub best-less : (ts : List (Trail B)) (t : Trail B) (path : List ℕ) (issuer : List B) (sharing : ℕ) (ties : List (List ℕ)) → IsBestOf ts path issuer sharing ties → is_upto path t.path ≡ false → IsBestOf (ts ++ t ∷ []) t.path t.issuer 1 (ties ++ t.ties)
+  best-less ts t path issuer sharing ties b less =
+      let back : is_upto t.path path ≡ true = is_upto-back path t.path less in
+      let upto : All (λ (u : Trail B). is_upto t.path u.path ≡ true) ts =
+      All-weaker (λ (u : Trail B). is_upto path u.path ≡ true) (λ (u : Trail B). is_upto t.path u.path ≡ true) (λ u f. is_upto-transitive t.path path u.path back f) ts b.least in
+      let before : with_path t.path ts ≡ 0 =
+      with_path-none t.path ts (λ u k. apart t.path u.path path (All-contains (λ (w : Trail B). is_upto path w.path ≡ true) ts u b.least k) less) in
+      let here : one t.path t ≡ 1 = one-has t.path t (bytes_eq-itself t.path) in
+      let n = with_path-push t.path ts t in
+      record {
+        among = inr record { best = t; contains = Contains-push ts t; path_is = refl; issuer_is = refl };
+        least = All-push (λ (u : Trail B). is_upto t.path u.path ≡ true) ts t upto (is_upto-refl t.path);
+        sharing_is = omega arith;
+        ties_are = ap (λ xs. xs ++ t.ties) b.ties_are ∙ sym (all_ties-push ts t);
+      }
+
+  still : (ts : List (Trail B)) (t : Trail B) (path : List ℕ) (issuer : List B) → IsAmong ts path issuer → IsAmong (ts ++ t ∷ []) path issuer
+  still ts t path issuer a = record { best = a.best; contains = Contains-append_left ts (t ∷ []) a.best a.contains; path_is = a.path_is; issuer_is = a.issuer_is }
+
+  pub best-equal : (ts : List (Trail B)) (t : Trail B) (path : List ℕ) (issuer : List B) (sharing : ℕ) (ties : List (List ℕ)) → IsBestOf ts path issuer sharing ties → 0 < sharing → t.path ≡ path → IsBestOf (ts ++ t ∷ []) path issuer (min (sharing + 1) (2 ^ 64 - 1)) (ties ++ t.ties)
+  best-equal ts t path issuer sharing ties b some same =
+      let here : one path t ≡ 1 = one-has path t (ap (bytes_eq t.path) (sym same) ∙ bytes_eq-itself t.path) in
+      let n = with_path-push path ts t in
+      let was = b.sharing_is in
+      record {
+        among = inr (still ts t path issuer (shared ts path issuer sharing ties b some));
+        least = All-push (λ (u : Trail B). is_upto path u.path ≡ true) ts t b.least (ap (is_upto path) same ∙ is_upto-refl path);
+        sharing_is = omega arith;
+        ties_are = ap (λ xs. xs ++ t.ties) b.ties_are ∙ sym (all_ties-push ts t);
+      }
+
+  pub best-greater : (ts : List (Trail B)) (t : Trail B) (path : List ℕ) (issuer : List B) (sharing : ℕ) (ties : List (List ℕ)) → IsBestOf ts path issuer sharing ties → 0 < sharing → is_upto path t.path ≡ true → bytes_eq t.path path ≡ false → IsBestOf (ts ++ t ∷ []) path issuer sharing (ties ++ t.ties)
+  best-greater ts t path issuer sharing ties b some above other =
+      let here : one path t ≡ 0 = one-lacks path t other in
+      let n = with_path-push path ts t in
+      let was = b.sharing_is in
+      record {
+        among = inr (still ts t path issuer (shared ts path issuer sharing ties b some));
+        least = All-push (λ (u : Trail B). is_upto path u.path ≡ true) ts t b.least above;
+        sharing_is = omega arith;
+        ties_are = ap (λ xs. xs ++ t.ties) b.ties_are ∙ sym (all_ties-push ts t);
+      }
+
+  -- ---- the same with what the program has at hand
+
+  abbrev pub Takes : List ℕ → List B → ℕ → List (List ℕ) → List ℕ → List B → List (List ℕ) → List ℕ → List B → ℕ → List (List ℕ) → Type 0
+  Takes path issuer sharing ties its_path its_issuer its_ties path' issuer' sharing' ties' =
+      (ts : List (Trail B)) (t : Trail B) → IsBestOf ts path issuer sharing ties → its_path ≡ t.path → its_issuer ≡ t.issuer → its_ties ≡ t.ties → IsBestOf (ts ++ t ∷ []) path' issuer' sharing' ties'
+
+  pub takes-less : (path : List ℕ) (issuer : List B) (sharing : ℕ) (ties : List (List ℕ)) (its_path : List ℕ) (its_issuer : List B) (its_ties new_ties : List (List ℕ)) → IsPlaceOf path sharing its_path Less → new_ties ≡ ties ++ its_ties
+      → Takes path issuer sharing ties its_path its_issuer its_ties its_path its_issuer 1 new_ties
+  takes-less path issuer sharing ties its_path its_issuer its_ties new_ties place e ts t b p i n =
+      rw (e, p, i, n) (⊎_elim (λ z. best-first ts t path issuer sharing ties b z) (λ l. best-less ts t path issuer sharing ties b (ap (is_upto path) (sym p) ∙ l)) place)
+
+  pub takes-equal : (path : List ℕ) (issuer : List B) (sharing : ℕ) (ties : List (List ℕ)) (its_path : List ℕ) (its_issuer : List B) (its_ties new_ties : List (List ℕ)) (more : ℕ) → IsPlaceOf path sharing its_path Equal → new_ties ≡ ties ++ its_ties → more ≡ min (sharing + 1) (2 ^ 64 - 1)
+      → Takes path issuer sharing ties its_path its_issuer its_ties path issuer more new_ties
+  takes-equal path issuer sharing ties its_path its_issuer its_ties new_ties more place e s ts t b p i n =
+      rw (s, e, n) (best-equal ts t path issuer sharing ties b place.0 (sym p ∙ place.1))
+
+  pub takes-greater : (path : List ℕ) (issuer : List B) (sharing : ℕ) (ties : List (List ℕ)) (its_path : List ℕ) (its_issuer : List B) (its_ties new_ties : List (List ℕ)) → IsPlaceOf path sharing its_path Greater → new_ties ≡ ties ++ its_ties
+      → Takes path issuer sharing ties its_path its_issuer its_ties path issuer sharing new_ties
+  takes-greater path issuer sharing ties its_path its_issuer its_ties new_ties place e ts t b p i n =
+      rw (e, n) (best-greater ts t path issuer sharing ties b place.0 (ap (is_upto path) (sym p) ∙ place.1) (ap (λ x. bytes_eq x path) (sym p) ∙ place.2))
+
+  -- ---- what it says of all of them
+
+  pub best-tie : (ts : List (Trail B)) (path : List ℕ) (issuer : List B) (sharing : ℕ) (ties : List (List ℕ)) → IsBestOf ts path issuer sharing ties → (nat_lt 1 sharing || list_any (λ before. starts_with ◌==◌ path before) ties) ≡ meets_tie path ts
+  best-tie ts path issuer sharing ties b =
+      let n : nat_lt 1 sharing ≡ nat_lt 1 (with_path path ts) = ap (nat_lt 1) b.sharing_is ∙ many (with_path path ts) in
+      let a : list_any (λ before. starts_with ◌==◌ path before) ties ≡ list_any (λ (t : Trail B). counts path t.ties) ts = ap (list_any (λ before. starts_with ◌==◌ path before)) b.ties_are ∙ any_counts path ts in
+      ap₂ ◌||◌ n a

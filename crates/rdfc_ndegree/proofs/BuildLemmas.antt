@@ -1,0 +1,284 @@
+-- Tables built of texts: numbers, rows, and the related nodes of a row.
+use Rattle.std.proofs.Common.{◌≡◌, ◌||◌, ◌==◌, ℕ, zero, suc, ◌<◌, ◌≤◌, List, [], ◌∷◌, ◌++◌, length, get_or, refl, sym, ap, ◌∙◌, subst, inl, inr, arith, Bool, true, false, cond, Contains, Option, Some, None, option_map, bytes_eq, slice_get, append-nil, append_assoc}
+use Rattle.std.specs.Prelude.{◌⊎◌}
+use Rattle.std.specs.Option.{option_eq, is_some}
+use Rattle.std.specs.List.{flat_map}
+use Rattle.std.proofs.lemmas.Bool.{false≢true}
+use Rattle.std.proofs.lemmas.Bool.Decides.{Decides-eqb}
+use Rattle.std.proofs.lemmas.Slice.Eq.{bytes_eq-Decides}
+use Rattle.std.proofs.lemmas.List.{map-append}
+use Rattle.std.proofs.Math.ListN.{set}
+use Rattle.base_types.proofs.Lists.{Contains-nil, Contains-here, Contains-there, Contains-cons_cases}
+use Rattle.nquads.specs.declared.hashes.BlankHash.{BlankHash}
+use Rattle.rdfc_ndegree.specs.declared.building.Parts.{Parts}
+use Rattle.rdfc_ndegree.specs.declared.table.Place.{Place}
+use Rattle.rdfc_ndegree.specs.declared.table.Place.TheVariants as place
+use Rattle.rdfc_ndegree.specs.declared.table.Related.{Related}
+use Rattle.rdfc_ndegree.specs.declared.table.NodeRow.{NodeRow}
+use Rattle.rdfc_ndegree.specs.Building.{number_among, names_of, new_row, with_row, links_at, links, more, related_at, node_related, object_related, relate, related_all}
+
+-- ---- numbers of texts
+
+option_cases : {X Y : Type 0} (o : Option X) (f : X → Y) (y : Y) → option_map f o ≡ Some y → (x : X) × (o ≡ Some x) × (f x ≡ y)
+option_cases None f y e = absurd (cc)
+option_cases (Some x) f y e = (x, refl, cc)
+
+pub number-get : (names : List (List ℕ)) (text : List ℕ) (k : ℕ) → number_among names text ≡ Some k → slice_get names k ≡ Some text
+number-get [] text k e = absurd (cc)
+number-get (name ∷ names) text k e = go (bytes_eq text name) refl e (number-get names text)
+  where
+    go : (t : Bool) → bytes_eq text name ≡ t → cond t (Some 0) (option_map suc (number_among names text)) ≡ Some k → ((j : ℕ) → number_among names text ≡ Some j → slice_get names j ≡ Some text) → slice_get (name ∷ names) k ≡ Some text
+    go true same e rest =
+        let zeroth : 0 ≡ k = cc in
+        subst (λ j. slice_get (name ∷ names) j ≡ Some text) zeroth (ap Some (sym ((bytes_eq-Decides text name).0 same)))
+    go false other e rest = let j = option_cases (number_among names text) suc k e in subst (λ j. slice_get (name ∷ names) j ≡ Some text) j.2 (rest j.0 j.1)
+
+pub number-below : (names : List (List ℕ)) (text : List ℕ) (k : ℕ) → number_among names text ≡ Some k → k < length names
+number-below [] text k e = absurd (cc)
+number-below (name ∷ names) text k e = go (bytes_eq text name) e (number-below names text)
+  where
+    go : (t : Bool) → cond t (Some 0) (option_map suc (number_among names text)) ≡ Some k → ((j : ℕ) → number_among names text ≡ Some j → j < length names) → k < length (name ∷ names)
+    go true e rest = let zeroth : 0 ≡ k = cc in omega arith
+    go false e rest = let j = option_cases (number_among names text) suc k e in let below = rest j.0 j.1 in let is = j.2 in omega arith
+
+pub number-there : (names : List (List ℕ)) (text : List ℕ) → Contains names text → (k : ℕ) × (number_among names text ≡ Some k)
+number-there [] text c = absurd (Contains-nil text c)
+number-there (name ∷ names) text c = go (bytes_eq text name) refl (number-there names text) (Contains-cons_cases name names text c)
+  where
+    go : (t : Bool) → bytes_eq text name ≡ t → (Contains names text → (k : ℕ) × (number_among names text ≡ Some k)) → (name ≡ text) ⊎ Contains names text → (k : ℕ) × (cond t (Some 0) (option_map suc (number_among names text)) ≡ Some k)
+    go true same rest c = (0, refl)
+    go false other rest (inl e) = absurd (false≢true (sym other ∙ (bytes_eq-Decides text name).1 (sym e)))
+    go false other rest (inr d) = let k = rest d in (suc k.0, ap (option_map suc) k.1)
+
+pub number-None : (names : List (List ℕ)) (text : List ℕ) → number_among names text ≡ None → Contains names text → ⊥
+number-None names text e c = let k = number-there names text c in let both : None ≡ Some k.0 = sym e ∙ k.1 in absurd (cc)
+
+pub number-Some : (names : List (List ℕ)) (text : List ℕ) (k : ℕ) → number_among names text ≡ Some k → Contains names text
+number-Some names text k e = got names k (number-get names text k e)
+  where
+    got : (names : List (List ℕ)) (k : ℕ) → slice_get names k ≡ Some text → Contains names text
+    got [] k e = absurd (cc)
+    got (name ∷ names) zero e = subst (Contains (name ∷ names)) (cc) (Contains-here name names)
+    got (name ∷ names) (suc k) e = Contains-there name names text (got names k e)
+
+-- ---- rows that are put in
+
+pub names-append : (rows : List NodeRow) (row : NodeRow) → names_of (rows ++ row ∷ []) ≡ names_of rows ++ row.blank ∷ []
+names-append rows row = map-append (λ (r : NodeRow). r.blank) rows (row ∷ [])
+
+pub row_added : (names : List (List ℕ)) (old : List NodeRow) (h : BlankHash) → names ≡ names_of old → number_among names h.blank ≡ None → (with_row old h ≡ old ++ new_row h ∷ []) × (names ++ h.blank ∷ [] ≡ names_of (old ++ new_row h ∷ []))
+row_added names old h is none =
+    let e : number_among (names_of old) h.blank ≡ None = ap (λ ns. number_among ns h.blank) (sym is) ∙ none in
+    (ap (λ o. cond (is_some o) old (old ++ new_row h ∷ [])) e, ap (λ ns. ns ++ h.blank ∷ []) is ∙ sym (names-append old (new_row h)))
+
+-- ---- related nodes of one row
+
+more-nothing : (row : NodeRow) → more row [] ≡ row
+more-nothing row = let e = append-nil row.related in λ i. record { blank = row.blank; first = row.first; related = e i }
+
+more-more : (row : NodeRow) (rs ss : List Related) → more (more row rs) ss ≡ more row (rs ++ ss)
+more-more row rs ss = let e = append_assoc row.related rs ss in λ i. record { blank = row.blank; first = row.first; related = e i }
+
+pub related_at-nothing : (rows : List NodeRow) (n : ℕ) → related_at rows n [] ≡ rows
+related_at-nothing [] n = refl
+related_at-nothing (row ∷ rows) zero = ap (λ r. r ∷ rows) (more-nothing row)
+related_at-nothing (row ∷ rows) (suc n) = ap (λ rs. row ∷ rs) (related_at-nothing rows n)
+
+pub related_at-related_at : (rows : List NodeRow) (n : ℕ) (rs ss : List Related) → related_at (related_at rows n rs) n ss ≡ related_at rows n (rs ++ ss)
+related_at-related_at [] n rs ss = refl
+related_at-related_at (row ∷ rows) zero rs ss = ap (λ r. r ∷ rows) (more-more row rs ss)
+related_at-related_at (row ∷ rows) (suc n) rs ss = ap (λ rs. row ∷ rs) (related_at-related_at rows n rs ss)
+
+pub related_at-past : (rows : List NodeRow) (n : ℕ) (rs : List Related) → length rows ≤ n → related_at rows n rs ≡ rows
+related_at-past [] n rs le = refl
+related_at-past (row ∷ rows) zero rs le = absurd (omega arith)
+related_at-past (row ∷ rows) (suc n) rs le = ap (λ rs. row ∷ rs) (related_at-past rows n rs (omega arith))
+
+pub names-related_at : (rows : List NodeRow) (n : ℕ) (rs : List Related) → names_of (related_at rows n rs) ≡ names_of rows
+names-related_at [] n rs = refl
+names-related_at (row ∷ rows) zero rs = refl
+names-related_at (row ∷ rows) (suc n) rs = ap (λ ns. row.blank ∷ ns) (names-related_at rows n rs)
+
+-- ---- what all rows get
+
+-- whether a part is the node
+abbrev pub is_at : ℕ → Option ℕ → Bool
+is_at k None = false
+is_at k (Some n) = n == k
+
+unfoldable pub stands : ℕ → Parts → Bool
+stands k p = (is_at k p.subject || is_at k p.object) || is_at k p.graph
+
+abbrev pub given : ℕ → Parts → List Related
+given k p = cond (stands k p) (links k p) []
+
+-- the k-th row of `new` is that of `old` with these related nodes more
+abbrev Gets : List NodeRow → List NodeRow → ℕ → List Related → Type 0
+Gets old new k rs = slice_get new k ≡ option_map (λ (r : NodeRow). more r rs) (slice_get old k)
+
+gets-nothing : (rows : List NodeRow) (k : ℕ) → Gets rows rows k []
+gets-nothing rows k = go (slice_get rows k)
+  where
+    go : (o : Option NodeRow) → o ≡ option_map (λ (r : NodeRow). more r []) o
+    go None = refl
+    go (Some r) = ap Some (sym (more-nothing r))
+
+gets-more : (a b c : List NodeRow) (k : ℕ) (rs ss : List Related) → Gets a b k rs → Gets b c k ss → Gets a c k (rs ++ ss)
+gets-more a b c k rs ss first second = second ∙ ap (option_map (λ (r : NodeRow). more r ss)) first ∙ go (slice_get a k)
+  where
+    go : (o : Option NodeRow) → option_map (λ (r : NodeRow). more r ss) (option_map (λ (r : NodeRow). more r rs) o) ≡ option_map (λ (r : NodeRow). more r (rs ++ ss)) o
+    go None = refl
+    go (Some r) = ap Some (more-more r rs ss)
+
+gets-same : (rows : List NodeRow) (k : ℕ) (rs : List Related) → Gets rows (related_at rows k rs) k rs
+gets-same [] k rs = refl
+gets-same (row ∷ rows) zero rs = refl
+gets-same (row ∷ rows) (suc k) rs = gets-same rows k rs
+
+gets-other : (rows : List NodeRow) (n k : ℕ) (rs : List Related) → (n ≡ k → ⊥) → Gets rows (related_at rows n rs) k []
+gets-other [] n k rs other = refl
+gets-other (row ∷ rows) zero zero rs other = absurd (other refl)
+gets-other (row ∷ rows) zero (suc k) rs other = gets-nothing rows k
+gets-other (row ∷ rows) (suc n) zero rs other = gets-nothing (row ∷ []) 0
+gets-other (row ∷ rows) (suc n) (suc k) rs other = gets-other rows n k rs (λ e. other (ap suc e))
+
+gets-related_at : (rows : List NodeRow) (n k : ℕ) (rs : List Related) → Gets rows (related_at rows n rs) k (cond (n == k) rs [])
+gets-related_at rows n k rs = go (n == k) refl
+  where
+    go : (t : Bool) → (n == k) ≡ t → Gets rows (related_at rows n rs) k (cond t rs [])
+    go true e = subst (λ m. Gets rows (related_at rows m rs) k rs) (sym ((Decides-eqb n k).0 e)) (gets-same rows k rs)
+    go false e = gets-other rows n k rs (λ f. false≢true (sym e ∙ (Decides-eqb n k).1 f))
+
+links_if : (n k : ℕ) (p : Parts) (t : Bool) → (n == k) ≡ t → cond t (links n p) [] ≡ cond t (links k p) []
+links_if n k p true e = ap (λ j. links j p) ((Decides-eqb n k).0 e)
+links_if n k p false e = refl
+
+gets-node : (rows : List NodeRow) (o : Option ℕ) (p : Parts) (k : ℕ) → Gets rows (node_related rows o p) k (cond (is_at k o) (links k p) [])
+gets-node rows None p k = gets-nothing rows k
+gets-node rows (Some n) p k = subst (Gets rows (related_at rows n (links n p)) k) (links_if n k p (n == k) refl) (gets-related_at rows n k (links n p))
+
+gets-if : (t : Bool) (rows : List NodeRow) (o : Option ℕ) (p : Parts) (k : ℕ) → Gets rows (cond t rows (node_related rows o p)) k (cond t [] (cond (is_at k o) (links k p) []))
+gets-if true rows o p k = gets-nothing rows k
+gets-if false rows o p k = gets-node rows o p k
+
+pick : (rs : List Related) (p q r : Bool) → (p ≡ true → q ≡ true → r ≡ true) → (p ≡ false → q ≡ true → r ≡ false) → cond p rs [] ++ cond r [] (cond q rs []) ≡ cond (p || q) rs []
+pick rs true true true f g = append-nil rs
+pick rs true true false f g = absurd (false≢true (f refl refl))
+pick rs true false true f g = append-nil rs
+pick rs true false false f g = append-nil rs
+pick rs false true true f g = absurd (false≢true (sym (g refl refl)))
+pick rs false true false f g = refl
+pick rs false false true f g = refl
+pick rs false false false f g = refl
+
+is_at-Some : (k : ℕ) (o : Option ℕ) → is_at k o ≡ true → o ≡ Some k
+is_at-Some k None e = absurd (false≢true e)
+is_at-Some k (Some n) e = ap Some ((Decides-eqb n k).0 e)
+
+is_at-itself : (k : ℕ) → is_at k (Some k) ≡ true
+is_at-itself k = (Decides-eqb k k).1 refl
+
+option_eq-Some : (a b : Option ℕ) (k : ℕ) → a ≡ Some k → b ≡ Some k → option_eq ◌==◌ a b ≡ true
+option_eq-Some a b k e f = (λ i. option_eq ◌==◌ (e i) (f i)) ∙ (Decides-eqb k k).1 refl
+
+option_eq-other : (a : Option ℕ) (b : Option ℕ) (k : ℕ) → is_at k a ≡ false → b ≡ Some k → option_eq ◌==◌ a b ≡ false
+option_eq-other None b k e f = ap (option_eq ◌==◌ None) f
+option_eq-other (Some n) b k e f = ap (option_eq ◌==◌ (Some n)) f ∙ e
+
+same_both : (k : ℕ) (a b : Option ℕ) → is_at k a ≡ true → is_at k b ≡ true → option_eq ◌==◌ a b ≡ true
+same_both k a b e f = option_eq-Some a b k (is_at-Some k a e) (is_at-Some k b f)
+
+apart_both : (k : ℕ) (a b : Option ℕ) → is_at k a ≡ false → is_at k b ≡ true → option_eq ◌==◌ a b ≡ false
+apart_both k a b e f = option_eq-other a b k e (is_at-Some k b f)
+
+or_true : (p : Bool) → (p || true) ≡ true
+or_true true = refl
+or_true false = refl
+
+or_same : (k : ℕ) (a b g : Option ℕ) → (is_at k a || is_at k b) ≡ true → is_at k g ≡ true → (option_eq ◌==◌ a g || option_eq ◌==◌ b g) ≡ true
+or_same k a b g e f = go (is_at k a) refl e
+  where
+    go : (t : Bool) → is_at k a ≡ t → (t || is_at k b) ≡ true → (option_eq ◌==◌ a g || option_eq ◌==◌ b g) ≡ true
+    go true h e = ap (λ p. p || option_eq ◌==◌ b g) (same_both k a g h f)
+    go false h e = ap (λ p. option_eq ◌==◌ a g || p) (same_both k b g e f) ∙ or_true (option_eq ◌==◌ a g)
+
+or_apart : (k : ℕ) (a b g : Option ℕ) → (is_at k a || is_at k b) ≡ false → is_at k g ≡ true → (option_eq ◌==◌ a g || option_eq ◌==◌ b g) ≡ false
+or_apart k a b g e f = go (is_at k a) refl e
+  where
+    go : (t : Bool) → is_at k a ≡ t → (t || is_at k b) ≡ false → (option_eq ◌==◌ a g || option_eq ◌==◌ b g) ≡ false
+    go true h e = absurd (false≢true (sym e))
+    go false h e = λ i. apart_both k a g h f i || apart_both k b g e f i
+
+gets-relate : (rows : List NodeRow) (p : Parts) (k : ℕ) → Gets rows (relate rows p) k (given k p)
+unfolding stands
+gets-relate rows p k =
+    let one = node_related rows p.subject p in
+    let two = object_related one p in
+    let a = gets-node rows p.subject p k in
+    let b = gets-if (option_eq ◌==◌ p.subject p.object) one p.object p k in
+    let c = gets-if (option_eq ◌==◌ p.subject p.graph || option_eq ◌==◌ p.object p.graph) two p.graph p k in
+    let first = pick (links k p) (is_at k p.subject) (is_at k p.object) (option_eq ◌==◌ p.subject p.object) (same_both k p.subject p.object) (apart_both k p.subject p.object) in
+    let second = pick (links k p) (is_at k p.subject || is_at k p.object) (is_at k p.graph) (option_eq ◌==◌ p.subject p.graph || option_eq ◌==◌ p.object p.graph) (or_same k p.subject p.object p.graph) (or_apart k p.subject p.object p.graph) in
+    let d : Gets rows two k (cond (is_at k p.subject || is_at k p.object) (links k p) []) = subst (Gets rows two k) first (gets-more rows one two k _ _ a b) in
+    subst (Gets rows (relate rows p) k) second (gets-more rows two (relate rows p) k _ _ d c)
+
+pub gets-all : (rows : List NodeRow) (ps : List Parts) (k : ℕ) → slice_get (related_all rows ps) k ≡ option_map (λ (r : NodeRow). more r (flat_map (given k) ps)) (slice_get rows k)
+gets-all rows [] k = gets-nothing rows k
+gets-all rows (p ∷ ps) k = gets-more rows (relate rows p) (related_all (relate rows p) ps) k (given k p) (flat_map (given k) ps) (gets-relate rows p k) (gets-all (relate rows p) ps k)
+
+-- ---- names stay, and related nodes are rows
+
+names-node : (rows : List NodeRow) (o : Option ℕ) (p : Parts) → names_of (node_related rows o p) ≡ names_of rows
+names-node rows None p = refl
+names-node rows (Some n) p = names-related_at rows n (links n p)
+
+names-if : (t : Bool) (rows : List NodeRow) (o : Option ℕ) (p : Parts) → names_of (cond t rows (node_related rows o p)) ≡ names_of rows
+names-if true rows o p = refl
+names-if false rows o p = names-node rows o p
+
+pub names-all : (rows : List NodeRow) (ps : List Parts) → names_of (related_all rows ps) ≡ names_of rows
+names-all rows [] = refl
+names-all rows (p ∷ ps) =
+    let one = node_related rows p.subject p in
+    let two = object_related one p in
+    names-all (relate rows p) ps
+    ∙ names-if (option_eq ◌==◌ p.subject p.graph || option_eq ◌==◌ p.object p.graph) two p.graph p
+    ∙ names-if (option_eq ◌==◌ p.subject p.object) one p.object p
+    ∙ names-node rows p.subject p
+
+-- ---- one node pushed to the row of another
+
+pub push-None : (rows : List NodeRow) (n : ℕ) (place : Place) (predicate : List ℕ) (o : Option ℕ) → o ≡ None → rows ≡ related_at rows n (links_at n place predicate o)
+push-None rows n place predicate o e = sym (ap (λ o. related_at rows n (links_at n place predicate o)) e ∙ related_at-nothing rows n)
+
+pub push-same : (rows : List NodeRow) (n m : ℕ) (place : Place) (predicate : List ℕ) (o : Option ℕ) → o ≡ Some m → m ≡ n → rows ≡ related_at rows n (links_at n place predicate o)
+push-same rows n m place predicate o e same =
+    let t : (m == n) ≡ true = (Decides-eqb m n).1 same in
+    sym (ap (λ o. related_at rows n (links_at n place predicate o)) e ∙ ap (λ b. related_at rows n (cond b [] (record { place = place; predicate = predicate; node = m } ∷ []))) t ∙ related_at-nothing rows n)
+
+related_at-set : (rows : List NodeRow) (n : ℕ) (row : NodeRow) (rs : List Related) → n < length rows → row ≡ get_or rows n row → set rows n (more row rs) ≡ related_at rows n rs
+related_at-set [] n row rs within e = absurd (omega arith)
+related_at-set (r ∷ rows) zero row rs within e = ap (λ z. more z rs ∷ rows) e
+related_at-set (r ∷ rows) (suc n) row rs within e = ap (λ ls. r ∷ ls) (related_at-set rows n row rs (omega arith) e)
+
+pub push-other : (rows : List NodeRow) (n m : ℕ) (place : Place) (predicate : List ℕ) (o : Option ℕ) (row : NodeRow) (pushed : List Related) (new : List NodeRow) → o ≡ Some m → (m ≡ n → ⊥) → n < length rows → row ≡ get_or rows n row → pushed ≡ row.related ++ record { place = place; predicate = predicate; node = m } ∷ [] → new ≡ set rows n record { blank = row.blank; first = row.first; related = pushed } → new ≡ related_at rows n (links_at n place predicate o)
+push-other rows n m place predicate o row pushed new e other within at is made =
+    let t : (m == n) ≡ false = apart (m == n) refl in
+    made ∙ (λ i. set rows n record { blank = row.blank; first = row.first; related = is i })
+    ∙ related_at-set rows n row (record { place = place; predicate = predicate; node = m } ∷ []) within at
+    ∙ sym (ap (λ o. related_at rows n (links_at n place predicate o)) e ∙ ap (λ b. related_at rows n (cond b [] (record { place = place; predicate = predicate; node = m } ∷ []))) t)
+  where
+    apart : (b : Bool) → (m == n) ≡ b → b ≡ false
+    apart true f = absurd (other ((Decides-eqb m n).0 f))
+    apart false f = refl
+
+pub push-three : (rows one two three : List NodeRow) (n : ℕ) (o : Option ℕ) (p : Parts) → o ≡ Some n → one ≡ related_at rows n (links_at n place.Subject p.predicate p.subject) → two ≡ related_at one n (links_at n place.Object p.predicate p.object) → three ≡ related_at two n (links_at n place.Graph p.predicate p.graph) → three ≡ node_related rows o p
+push-three rows one two three n o p e a b c =
+    let s = links_at n place.Subject p.predicate p.subject in
+    let t = links_at n place.Object p.predicate p.object in
+    let u = links_at n place.Graph p.predicate p.graph in
+    c ∙ ap (λ rs. related_at rs n u) (b ∙ ap (λ rs. related_at rs n t) a)
+    ∙ ap (λ rs. related_at rs n u) (related_at-related_at rows n s t)
+    ∙ related_at-related_at rows n (s ++ t) u
+    ∙ ap (related_at rows n) (append_assoc s t u)
+    ∙ sym (ap (λ o. node_related rows o p) e)

@@ -1,0 +1,84 @@
+-- The nodes of a table field by field, and issuers over numbers.
+use Rattle.std.proofs.Common.{◌≡◌, ℕ, zero, suc, ◌+◌, ◌<◌, List, [], ◌∷◌, ◌++◌, length, refl, sym, ap, arith, Some, None, Bool, true, false, cond, ◌==◌, decimal}
+use Rattle.std.specs.Prelude.{slice_get, codes}
+use Rattle.std.proofs.Common.{◌≤◌, get_or, take}
+use Rattle.std.proofs.lemmas.List.{take_all}
+use Rattle.std.specs.List.{list_any}
+use Rattle.digest_mac.specs.Digests.{sha256_digits}
+use Rattle.std.proofs.lemmas.Bool.Decides.{nat_tests}
+use Rattle.rdfc_ndegree.specs.Issuers.{has, number, canonical_id, temporary_id}
+use Rattle.rdfc_ndegree.specs.Table.{numbers_below, first_in, related_in_row, table_nodes}
+use Rattle.rdfc_ndegree.specs.Kept.{number_in, place_in}
+use Rattle.rdfc_ndegree.specs.declared.table.NodeRow.{NodeRow}
+
+module _ (rows : List NodeRow) where
+  pub table-all : (table_nodes rows).all ≡ numbers_below (length rows)
+  unfolding table_nodes
+  table-all = refl
+
+  pub table-same : (table_nodes rows).same ≡ ◌==◌
+  unfolding table_nodes
+  table-same = refl
+
+  pub table-digest : (table_nodes rows).digest ≡ sha256_digits
+  unfolding table_nodes
+  table-digest = refl
+
+  pub table-first : (n : ℕ) → (table_nodes rows).first n ≡ first_in (slice_get rows n)
+  unfolding table_nodes
+  table-first n = refl
+
+  pub table-related : (n : ℕ) → (table_nodes rows).related n ≡ related_in_row (slice_get rows n)
+  unfolding table_nodes
+  table-related n = refl
+
+  pub table-has : (c : List ℕ) (n : ℕ) → has (table_nodes rows) c n ≡ list_any (λ m. m == n) c
+  unfolding table_nodes
+  table-has c n = refl
+
+  pub table-number : (c : List ℕ) (n : ℕ) → number (table_nodes rows) c n ≡ number_in c n
+  unfolding table_nodes
+  table-number [] n = refl
+  table-number (m ∷ ms) n = let rest = table-number ms n in λ i. cond (m == n) 0 (1 + rest i)
+
+  pub table-canonical_id : (c : List ℕ) (n : ℕ) → canonical_id (table_nodes rows) c n ≡ codes "c14n" ++ decimal (number_in c n)
+  table-canonical_id c n = ap (λ k. codes "c14n" ++ decimal k) (table-number c n)
+
+  pub table-temporary_id : (i : List ℕ) (n : ℕ) → temporary_id (table_nodes rows) i n ≡ codes "b" ++ decimal (number_in i n)
+  table-temporary_id i n = ap (λ k. codes "b" ++ decimal k) (table-number i n)
+
+-- ---- places
+
+pub place-none : (xs : List ℕ) (n : ℕ) → place_in xs n ≡ None → list_any (λ m. m == n) xs ≡ false
+place-none xs n e = go (list_any (λ m. m == n) xs) refl
+  where
+    go : (b : Bool) → list_any (λ m. m == n) xs ≡ b → list_any (λ m. m == n) xs ≡ false
+    go false is = is
+    go true is = let made : place_in xs n ≡ Some (number_in xs n) = rw is refl in absurd (cc)
+
+pub place-some : (xs : List ℕ) (n k : ℕ) → place_in xs n ≡ Some k → (list_any (λ m. m == n) xs ≡ true) × (k ≡ number_in xs n)
+place-some xs n k e = go (list_any (λ m. m == n) xs) refl
+  where
+    go : (b : Bool) → list_any (λ m. m == n) xs ≡ b → (list_any (λ m. m == n) xs ≡ true) × (k ≡ number_in xs n)
+    go false is = let made : place_in xs n ≡ None = rw is refl in absurd (cc)
+    go true is = let made : place_in xs n ≡ Some (number_in xs n) = rw is refl in (is, cc)
+
+pub number-absent : (xs : List ℕ) (n : ℕ) → list_any (λ m. m == n) xs ≡ false → number_in xs n ≡ length xs
+number-absent [] n e = refl
+number-absent (x ∷ xs) n e = grind (arith, nat_tests, number-absent xs n)
+
+-- the first place that holds the number
+pub place-found : (xs : List ℕ) (n k : ℕ) → k < length xs → get_or xs k 0 ≡ n → list_any (λ m. m == n) (take k xs) ≡ false → Some k ≡ place_in xs n
+place-found [] n k in' is none = absurd (omega arith)
+place-found (x ∷ xs) n zero in' is none = let same : (x == n) ≡ true = grind (arith, nat_tests) in rw same refl
+place-found (x ∷ xs) n (suc k) in' is none =
+    let other : (x == n) ≡ false = grind (arith, nat_tests) in
+    let later : list_any (λ m. m == n) (take k xs) ≡ false = grind (arith, nat_tests) in
+    let rest = place-some xs n k (sym (place-found xs n k (omega arith) is later)) in
+    let next : suc k ≡ 1 + number_in xs n = omega (arith, rest.1) in
+    rw (other, rest.0) (ap Some next)
+
+pub place-missing : (xs : List ℕ) (n k : ℕ) → length xs ≤ k → list_any (λ m. m == n) (take k xs) ≡ false → None ≡ place_in xs n
+place-missing xs n k past none = let whole : take k xs ≡ xs = take_all k xs past in let none' = rw whole at none in rw none' refl
+
+pub ruleset places = (place-found, place-missing)

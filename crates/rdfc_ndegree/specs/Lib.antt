@@ -1,0 +1,17 @@
+pub mod Nodes
+pub mod Issuers
+pub mod Groups
+pub mod NDegree
+pub mod Branches
+pub mod Lack
+pub mod Run
+pub mod Datasets
+pub mod Table
+pub mod Answers
+pub mod TableOf
+pub mod Building
+pub mod Kept
+pub mod Sequences
+pub mod Evaluations
+pub mod Progress
+pub mod Requests

@@ -1,0 +1,180 @@
+//! Hash N-Degree Quads over blank nodes by their texts (RDF Dataset Canonicalization, 4.8).
+ghost use Rattle.std.specs.Prelude.{◌≡◌, ◌<◌, ◌≤◌, ◌++◌, ℕ, [], List, map, All, Err, IfOk, OnOk, length};
+ghost use Rattle.std.specs.List.{filter_map};
+ghost use Rattle.digest_mac.specs.Digests.{sha256_digits};
+ghost use Rattle.nquads.specs.Terms.{Blank, Statement};
+ghost use Rattle.nquads.specs.Spelling.{blank_text, spelled};
+ghost use Rattle.nquads.specs.FirstDegree.{AreFirstHashes};
+ghost use Rattle.rdfc_ndegree.specs.TableOf.{IsTableWith};
+ghost use Rattle.rdfc_ndegree.specs.declared.limits.CanonFault.{CanonFault};
+ghost use Rattle.rdfc_ndegree.specs.Datasets.{nodes_of};
+ghost use Rattle.rdfc_ndegree.specs.Answers.{AnswersCall, CallOver, CallDeep};
+ghost use Rattle.rdfc_ndegree.specs.Building.{names_of, number_among};
+ghost use Rattle.rdfc_ndegree.specs.Requests.{IsRequest, IsSpelledCall, issued, name_at};
+
+use crate::building::node_table;
+use crate::canonical::Canonical;
+use crate::degree::hash_n_degree;
+use crate::limits::{CanonFault, Issuer, Meter, Path};
+use crate::table::NodeTable;
+use base_types::{Memory, Sequence, Text};
+use nquads::{BlankHash, TextQuads};
+use std::alloc::Global;
+
+/// The n-degree hash of a blank node (RDF Dataset Canonicalization, 4.8, Hash N-Degree Quads). `firsts`
+/// names each blank node of the dataset once, with its first-degree hash; `canonical` is the canonical
+/// issuer, `issuer` the one with which the call begins, and `depth` the number of calls that are open, this
+/// one counted. Each arrangement that is evaluated adds one to what `meter` has spent.
+///
+/// # Errors
+///
+/// `TooMuchWork`, `TooDeep`: more arrangements would be evaluated, or more calls be open, than this limit
+/// of the meter allows. `Memory`: there is no memory for the search.
+pub fn n_degree(
+    alloc: Global,
+    quads: &TextQuads,
+    firsts: &[BlankHash],
+    canonical: &Issuer,
+    node: &Text,
+    issuer: Issuer,
+    depth: u64,
+    meter: &mut Meter,
+) -> Result<Path, CanonFault>
+    requires { IsRequest quads.now firsts.now canonical.now.order node.now issuer.order depth }
+    ensures limits { meter.new.limits ≡ meter.old.limits }
+    ensures kept { meter.old.spent ≤ meter.old.limits.work → IfOk result (λ _. meter.new.spent ≤ meter.old.limits.work) }
+    ensures ok { (q : List Statement) (n : Blank) (c i : List Blank)
+        → IsSpelledCall q n c i quads.now firsts.now canonical.now.order node.now issuer.order
+        → IfOk result (λ p. (j : List Blank) × (p.issuer.order ≡ map blank_text j) × AnswersCall (nodes_of sha256_digits q) c n i p.hash j p.tie meter.old.spent meter.new.spent depth meter.old.limits.depth) }
+    ensures work { (q : List Statement) (n : Blank) (c i : List Blank)
+        → IsSpelledCall q n c i quads.now firsts.now canonical.now.order node.now issuer.order
+        → (limit : ℕ) → result ≡ Err (CanonFault.TooMuchWork limit)
+        → (limit ≡ meter.old.limits.work) × CallOver (nodes_of sha256_digits q) c n i meter.old.spent limit }
+    ensures deep { (q : List Statement) (n : Blank) (c i : List Blank)
+        → IsSpelledCall q n c i quads.now firsts.now canonical.now.order node.now issuer.order
+        → (limit : ℕ) → result ≡ Err (CanonFault.TooDeep limit)
+        → (limit ≡ meter.old.limits.depth) × CallDeep (nodes_of sha256_digits q) c n i depth limit }
+{
+    let Numbered {
+        table,
+        canonical: named,
+        issuer: begun,
+    } = number_all(
+        alloc,
+        quads,
+        firsts,
+        canonical.order.as_slice(),
+        issuer.order.as_slice(),
+    )?;
+    let Some(number) = table.number_of(node.as_str()) else {
+        unreachable!()
+    };
+    let path = match hash_n_degree(alloc, &table, &named, number, begun, depth, meter) {
+        Ok(path) => path,
+        Err(fault) => return Err(fault),
+    };
+    let order = texts_of(alloc, &table, path.issuer.as_slice())?;
+    Ok(Path {
+        hash: path.hash,
+        issuer: Issuer { order },
+        tie: path.tie,
+    })
+}
+
+/// The dataset's table, and the issuers over its numbers.
+#[derive(Debug, Drop)]
+struct Numbered {
+    table: NodeTable,
+    canonical: Canonical,
+    issuer: Sequence<usize>,
+}
+
+fn number_all(
+    alloc: Global,
+    quads: &TextQuads,
+    firsts: &[BlankHash],
+    canonical: &[Text],
+    issuer: &[Text],
+) -> Result<Numbered, Memory>
+    ensures table { (q : List Statement) (cs : List Blank) → quads.now ≡ map spelled q
+        → AreFirstHashes sha256_digits q firsts.now → canonical.now ++ issuer.now ≡ map blank_text cs
+        → IfOk result (λ r. IsTableWith q firsts.now cs r.table) }
+    ensures canonical { IfOk result (λ r. r.canonical ≡ issued [] (filter_map (number_among (names_of r.table)) canonical.now)) }
+    ensures issuer { IfOk result (λ r. r.issuer ≡ filter_map (number_among (names_of r.table)) issuer.now) }
+{
+    let others = both(alloc, canonical, issuer)?;
+    let table = node_table(alloc, quads, firsts, others.as_slice())?;
+    let canonical = issuer_over(alloc, &table, canonical)?;
+    let issuer = numbers_of(alloc, &table, issuer)?;
+    Ok(Numbered {
+        table,
+        canonical,
+        issuer,
+    })
+}
+
+/// Copies of the first texts, then of the second.
+fn both(alloc: Global, first: &[Text], second: &[Text]) -> Result<Vec<Text>, Memory>
+    ensures { IfOk result (λ all. all.items ≡ first.now ++ second.now) }
+{
+    let mut all = Vec::new(alloc);
+    push_copies(&mut all, first)?;
+    push_copies(&mut all, second)?;
+    Ok(all)
+}
+
+fn push_copies(all: &mut Vec<Text>, texts: &[Text]) -> Result<(), Memory>
+    ensures { OnOk result (all.new.items ≡ all.old.items ++ texts.now) }
+{
+    for text in texts {
+        let copy = text.clone()?;
+        all.push(copy)?;
+    }
+    Ok(())
+}
+
+/// The numbers of the texts that are names of the table.
+fn numbers_of(alloc: Global, table: &NodeTable, texts: &[Text]) -> Result<Sequence<usize>, Memory>
+    ensures numbers { IfOk result (λ ks. ks ≡ filter_map (number_among (names_of table.now)) texts.now) }
+{
+    let mut numbers = Sequence::new(alloc);
+    for text in texts {
+        if let Some(number) = table.number_of(text.as_str()) {
+            numbers.push(number)?;
+        }
+    }
+    Ok(numbers)
+}
+
+/// The issuer that has named the nodes of these texts, in their order.
+fn issuer_over(alloc: Global, table: &NodeTable, texts: &[Text]) -> Result<Canonical, Memory>
+    ensures { IfOk result (λ c. c ≡ issued [] (filter_map (number_among (names_of table.now)) texts.now)) }
+{
+    let numbers = numbers_of(alloc, table, texts)?;
+    let mut issuer = Canonical::new(alloc, table.len())?;
+    issue_all(&mut issuer, numbers.as_slice())?;
+    Ok(issuer)
+}
+
+fn issue_all(issuer: &mut Canonical, numbers: &[usize]) -> Result<(), Memory>
+    ensures { OnOk result (issuer.new ≡ issued issuer.old numbers.now) }
+{
+    for number in numbers {
+        issuer.issue(*number)?;
+    }
+    Ok(())
+}
+
+/// The texts by which statements name these nodes.
+fn texts_of(alloc: Global, table: &NodeTable, numbers: &[usize]) -> Result<Sequence<Text>, Memory>
+    ensures { IfOk result (λ texts. texts ≡ filter_map (name_at table.now) numbers.now) }
+{
+    let mut texts = Sequence::new(alloc);
+    for number in numbers {
+        if let Some(row) = table.row(*number) {
+            let text = row.blank.clone()?;
+            texts.push(text)?;
+        }
+    }
+    Ok(texts)
+}

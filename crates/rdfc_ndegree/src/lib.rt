@@ -1,0 +1,40 @@
+//! N-degree hashing of blank nodes (RDF Dataset Canonicalization, 4.7 and 4.8), and what runs of the
+//! canonicalization algorithm are.
+//!
+//! `specs/` defines n-degree hashing and runs as relations over any kind of node: every arrangement is
+//! evaluated, and any with the least path may be chosen. The code works over a table in which blank nodes
+//! are numbers (`NodeTable`), and a law carries each of its runs to the blank nodes of the dataset.
+#![tactic(auto)]
+
+mod arrangements;
+mod blank_nodes;
+mod building;
+#[cfg(test)]
+mod building_tests;
+mod canonical;
+mod choice;
+mod degree;
+#[cfg(test)]
+mod degree_tests;
+mod firsts;
+mod identifiers;
+mod limits;
+mod names;
+mod path;
+mod related;
+mod table;
+#[cfg(test)]
+mod tests;
+mod walk;
+
+pub use arrangements::Arrangements;
+pub use base_types::{Memory, Sequence, Text};
+pub use blank_nodes::n_degree;
+pub use building::node_table;
+pub use canonical::Canonical;
+pub use degree::hash_n_degree;
+pub use firsts::first_groups;
+pub use limits::{CanonFault, Issuer, Limits, Meter, Path};
+pub use path::NodePath;
+pub use related::NodeGroup;
+pub use table::{NodeRow, NodeTable, Place, Related};

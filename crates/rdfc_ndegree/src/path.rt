@@ -1,0 +1,10 @@
+use base_types::Sequence;
+
+/// What n-degree hashing gives over a table: the hash, the numbers of the nodes that the issuer has
+/// named, and whether a tie was met that counts.
+#[derive(Debug, Drop)]
+pub struct NodePath {
+    pub hash: [u8; 64],
+    pub issuer: Sequence<usize>,
+    pub tie: bool,
+}

@@ -1,0 +1,162 @@
+ghost use Rattle.std.specs.Prelude.{◌≡◌, ◌<◌, ◌++◌, map, length, All, IsTrue, OnOk, IfOk};
+ghost use Rattle.rdfc_ndegree.specs.Groups.{place_text, known_as, grouped, hashed_related, related_groups};
+ghost use Rattle.rdfc_ndegree.specs.Kept.{hashed_in, group_in, added, ends_with};
+ghost use Rattle.rdfc_ndegree.specs.Table.{occurrence_of, position_of, table_nodes};
+
+use crate::canonical::Canonical;
+use crate::identifiers::{place_of, push_canonical, push_temporary};
+use crate::table::{NodeTable, Place, Related};
+use base_types::{Memory, Sequence};
+use digest_mac::sha256_hex;
+use std::alloc::Global;
+
+/// A node with a hash of it.
+#[derive(Debug, Drop)]
+pub(crate) struct HashedNode {
+    pub hash: [u8; 64],
+    pub node: usize,
+}
+
+/// The nodes with one related hash, each as often as it has that hash.
+#[derive(Debug, Drop)]
+pub struct NodeGroup {
+    pub hash: [u8; 64],
+    pub members: Sequence<usize>,
+}
+
+/// The related nodes of a node, once for each occurrence, grouped by the related hashes that are taken
+/// with this issuer. The groups are in hash order. RDF Dataset Canonicalization, 4.8.3, steps 1 to 3.
+///
+/// # Errors
+///
+/// `Memory`: there is no memory for the groups.
+pub fn related_groups(
+    alloc: Global,
+    table: &NodeTable,
+    canonical: &Canonical,
+    issuer: &[usize],
+    node: usize,
+) -> Result<Vec<NodeGroup>, Memory>
+    ensures groups { IfOk result (λ groups. map group_in groups.items ≡ related_groups (table_nodes table.now) canonical.now issuer.now node) }
+    ensures listed { IfOk result (λ groups. All (λ g. All (λ m. m < length table.now) g.members) groups.items) }
+{
+    let Some(row) = table.row(node) else {
+        return Ok(Vec::new(alloc));
+    };
+    let hashed = related_hashes(alloc, table, canonical, issuer, row.related.as_slice())?;
+    let groups = grouped_by_hash(alloc, hashed)?;
+    Ok(groups)
+}
+
+/// Each occurrence's node with the related hash.
+fn related_hashes(
+    alloc: Global,
+    table: &NodeTable,
+    canonical: &Canonical,
+    issuer: &[usize],
+    related: &[Related],
+) -> Result<Vec<HashedNode>, Memory>
+    ensures { IfOk result (λ hs. map hashed_in hs.items ≡ map (hashed_related (table_nodes table.now) canonical.now issuer.now) (map occurrence_of related.now)) }
+{
+    let mut hashed = Vec::new(alloc);
+    for occurrence in related {
+        let mut text = Vec::new(alloc);
+        push_place(&mut text, occurrence)?;
+        push_known_as(alloc, &mut text, table, canonical, issuer, occurrence.node)?;
+        hashed.push(HashedNode {
+            hash: sha256_hex(text.as_slice()),
+            node: occurrence.node,
+        })?;
+    }
+    Ok(hashed)
+}
+
+/// `s`, `o` or `g`, and for the first two the predicate. RDF Dataset Canonicalization, 4.7.3, steps 1 and 2.
+fn push_place(text: &mut Vec<u8>, occurrence: &Related) -> Result<(), Memory>
+    ensures { OnOk result (text.new.items ≡ text.old.items ++ place_text (position_of occurrence.now.place) occurrence.now.predicate) }
+{
+    match occurrence.place {
+        Place::Subject => text.push(b's')?,
+        Place::Object => text.push(b'o')?,
+        Place::Graph => {
+            text.push(b'g')?;
+            return Ok(());
+        }
+    }
+    text.extend_from_slice(occurrence.predicate.as_bytes())?;
+    Ok(())
+}
+
+/// What a related hash calls a node: its identifier if it has one, and else its first-degree hash.
+/// RDF Dataset Canonicalization, 4.7.3, steps 3 and 4.
+#[tactic(auto, using(crate::proofs::Walks::known))]
+fn push_known_as(
+    alloc: Global,
+    text: &mut Vec<u8>,
+    table: &NodeTable,
+    canonical: &Canonical,
+    issuer: &[usize],
+    node: usize,
+) -> Result<(), Memory>
+    ensures { OnOk result (text.new.items ≡ text.old.items ++ known_as (table_nodes table.now) canonical.now issuer.now node) }
+{
+    if let Some(number) = canonical.number(node) {
+        return push_canonical(alloc, text, number);
+    }
+    if let Some(number) = place_of(issuer, node) {
+        return push_temporary(alloc, text, number);
+    }
+    if let Some(row) = table.row(node) {
+        text.extend_from_slice(row.first.as_slice())?;
+    }
+    Ok(())
+}
+
+/// The nodes grouped by hash, the groups in hash order, each in the order of the list.
+pub(crate) fn grouped_by_hash(
+    alloc: Global,
+    mut hashed: Vec<HashedNode>,
+) -> Result<Vec<NodeGroup>, Memory>
+    ensures { IfOk result (λ groups. map group_in groups.items ≡ grouped (map hashed_in hashed.items)) }
+{
+    hashed.sort_by_key(
+        |node: &HashedNode|
+            ensures { result ≡ node.entry.now.hash }
+        { node.hash },
+    )?;
+    let mut groups = Vec::new(alloc);
+    for next in &hashed {
+        add(alloc, &mut groups, next)?;
+    }
+    Ok(groups)
+}
+
+/// Adds a node to the last group if it has its hash, and else as a group of its own.
+#[tactic(auto, using(crate::proofs::Adding::adding))]
+fn add(alloc: Global, groups: &mut Vec<NodeGroup>, next: &HashedNode) -> Result<(), Memory>
+    ensures { OnOk result (map group_in groups.new.items ≡ added (map group_in groups.old.items) (hashed_in next.now)) }
+{
+    if ends_with(groups.as_slice(), &next.hash) {
+        let last = groups.len() - 1;
+        return groups[last].members.push(next.node);
+    }
+    let mut members = Sequence::new(alloc);
+    members.push(next.node)?;
+    groups.push(NodeGroup {
+        hash: next.hash,
+        members,
+    })?;
+    Ok(())
+}
+
+/// Whether there is a last group and it has this hash.
+#[tactic(auto, using(crate::proofs::Adding::ending))]
+fn ends_with(groups: &[NodeGroup], hash: &[u8; 64]) -> bool
+    ensures last { result ≡ ends_with (map group_in groups.now) hash.now }
+    ensures some { IsTrue result → 0 < length groups.now }
+{
+    match groups.last() {
+        Some(group) => group.hash == *hash,
+        None => false,
+    }
+}

@@ -1,0 +1,136 @@
+use crate::arrangements::Arrangements;
+use crate::building::node_table;
+use crate::canonical::Canonical;
+use crate::related::related_groups;
+use crate::table::NodeTable;
+use crate::walk::{push_entry, walk_over};
+use base_types::{Memory, Text};
+use digest_mac::sha256_hex;
+use nquads::{BlankHash, TextQuad, TextQuads};
+use std::alloc::Global;
+
+const PREDICATE: &str = "<http://example.com/p>";
+
+/// The names of the nodes, by number, and what their first-degree hashes are taken of here.
+const NODES: [(&str, &[u8]); 4] = [
+    ("_:nzero", b"zero"),
+    ("_:none", b"one"),
+    ("_:ntwo", b"two"),
+    ("_:nthree", b"three"),
+];
+
+/// Subject, object and graph of four statements.
+const STATEMENTS: [(&str, &str, Option<&str>); 4] = [
+    ("_:none", "_:nzero", None),
+    ("_:nzero", "_:ntwo", None),
+    ("_:nzero", "\"x\"", Some("_:nthree")),
+    ("_:none", "_:nzero", Some("<http://example.com/g>")),
+];
+
+/// Node 0 is beside node 1 twice as subject, node 2 as object and node 3 as graph.
+fn table(alloc: Global) -> Result<NodeTable, Memory> {
+    let mut quads = Vec::new(alloc);
+    for (subject, object, graph) in STATEMENTS {
+        let graph = match graph {
+            Some(graph) => Some(Text::from_str(alloc, graph)?),
+            None => None,
+        };
+        quads.push(TextQuad {
+            subject: Text::from_str(alloc, subject)?,
+            predicate: Text::from_str(alloc, PREDICATE)?,
+            object: Text::from_str(alloc, object)?,
+            graph,
+        })?;
+    }
+    let mut firsts = Vec::new(alloc);
+    for (name, text) in NODES {
+        let blank = Text::from_str(alloc, name)?;
+        let hash = sha256_hex(text);
+        firsts.push(BlankHash { blank, hash })?;
+    }
+    node_table(alloc, &TextQuads::from_vec(quads), firsts.as_slice(), &[])
+}
+
+// Digests of `o<http://example.com/p>_:b1`, `s<http://example.com/p>_:c14n0` and `g` with the first-degree
+// hash of node 3, by another implementation.
+const GROUPS: [(&str, &[usize]); 3] = [
+    (
+        "0812120ca92da9f873a909c071e0fb62892e99173aa16a354ff8b0aad21322ad",
+        &[2],
+    ),
+    (
+        "580a454baf47c24eed9aef7f2c9112599edd461bae551d48f3c7c8abd9f1c494",
+        &[1, 1],
+    ),
+    (
+        "b63743ce5cfdf0a6a9c606da63865aa0403dff5f3714a536e1ffba39d56a3d7e",
+        &[3],
+    ),
+];
+
+#[test]
+fn related_nodes_are_grouped(rt: HostRuntime) -> Result<(), Memory> {
+    let table = table(rt.alloc())?;
+    let mut canonical = Canonical::new(rt.alloc(), table.len())?;
+    canonical.issue(1)?;
+    let groups = related_groups(rt.alloc(), &table, &canonical, &[0, 2], 0)?;
+    assert_eq!(rt; groups.len(), GROUPS.len());
+    for (group, (hash, members)) in groups.iter().zip(GROUPS) {
+        assert_eq!(rt; group.hash.as_slice(), hash.as_bytes());
+        assert_eq!(rt; group.members.as_slice(), members);
+    }
+    let none = related_groups(rt.alloc(), &table, &canonical, &[0, 2], 4)?;
+    assert!(rt; none.is_empty());
+    Ok(())
+}
+
+#[test]
+fn members_are_named_in_order(rt: HostRuntime) -> Result<(), Memory> {
+    let mut canonical = Canonical::new(rt.alloc(), 2)?;
+    canonical.issue(7)?;
+    canonical.issue(3)?;
+    canonical.issue(7)?;
+    assert_eq!(rt; canonical.as_slice(), [7, 3].as_slice());
+    let walk = walk_over(rt.alloc(), &canonical, &[5], &[3, 8, 5, 9, 8])?;
+    assert_eq!(rt; walk.path.as_slice(), b"_:c14n1_:b1_:b0_:b2_:b1".as_slice());
+    assert_eq!(rt; walk.issuer.as_slice(), [5, 8, 9].as_slice());
+    assert_eq!(rt; walk.named.as_slice(), [8, 9].as_slice());
+    let mut path = Vec::new(rt.alloc());
+    push_entry(rt.alloc(), &mut path, &[5, 8, 9], 9, &[b'e'; 64])?;
+    assert_eq!(rt; path.len(), 70);
+    assert!(rt; path.starts_with(b"_:b2<eee"));
+    assert_eq!(rt; path[69], b'>');
+    Ok(())
+}
+
+const ARRANGEMENTS: [(&[usize], &[&[usize]]); 4] = [
+    (&[], &[&[]]),
+    (&[5], &[&[5]]),
+    (&[2, 1, 1], &[&[1, 1, 2], &[1, 2, 1], &[2, 1, 1]]),
+    (
+        &[3, 1, 2],
+        &[
+            &[1, 2, 3],
+            &[1, 3, 2],
+            &[2, 1, 3],
+            &[2, 3, 1],
+            &[3, 1, 2],
+            &[3, 2, 1],
+        ],
+    ),
+];
+
+#[test]
+fn arrangements_come_in_order(rt: HostRuntime) -> Result<(), Memory> {
+    for (members, want) in ARRANGEMENTS {
+        let mut left = Arrangements::new(rt.alloc(), members)?;
+        for arrangement in want {
+            match left.next(rt.alloc())? {
+                Some(next) => assert_eq!(rt; next.as_slice(), *arrangement),
+                None => assert!(rt; false, "an arrangement is left out"),
+            }
+        }
+        assert!(rt; left.next(rt.alloc())?.is_none());
+    }
+    Ok(())
+}
