@@ -1,0 +1,137 @@
+-- What a run over the table of a dataset says of the dataset.
+use Rattle.std.proofs.Common.{◌≡◌, ◌↔◌, ℕ, List, [], map, All, Contains, Bool, true, false, refl, sym, ap, ◌∙◌, subst, ⊎_elim, ◌⊎◌}
+use Rattle.std.proofs.lemmas.List.Elements.{All-weaker}
+use Rattle.base_types.specs.Sets.{AllDiffer}
+use Rattle.base_types.proofs.Lists.{Contains-nil, Contains-map, Contains-from_map}
+use Rattle.digest_mac.specs.Digests.{sha256_digits}
+use Rattle.nquads.specs.Terms.{Blank, Statement}
+use Rattle.nquads.specs.Renaming.{StandsIn}
+use Rattle.nquads.specs.Spelling.{blank_text, spelled}
+use Rattle.nquads.specs.Lines.{canonical_lines}
+use Rattle.nquads.specs.Texts.{label_in, Names}
+use Rattle.nquads.specs.declared.hashes.BlankHash.{BlankHash}
+use Rattle.nquads.specs.declared.labels.TextLabel.{TextLabel}
+use Rattle.nquads.specs.declared.quads.TextQuad.{TextQuad}
+use Rattle.nquads.proofs.ReadingElements.{AllDiffer-map}
+use Rattle.rdfc_ndegree.specs.Evaluations.{IsFaultOf}
+use Rattle.rdfc_ndegree.specs.Issuers.{canonical_id}
+use Rattle.rdfc_ndegree.specs.Run.{Result, IsRun, MeetsTie, WorkOver, DepthOver}
+use Rattle.rdfc_ndegree.specs.Table.{IsClosed, table_nodes}
+use Rattle.rdfc_ndegree.specs.TableOf.{IsTableWith}
+use Rattle.rdfc_ndegree.specs.declared.limits.CanonFault.{CanonFault}
+use Rattle.rdfc_ndegree.specs.declared.limits.Limits.{Limits}
+use Rattle.rdfc_ndegree.specs.declared.table.NodeRow.{NodeRow}
+use Rattle.rdfc_ndegree.proofs.Labels.{issuer-differs, issuer-covers, issuer-only}
+use Rattle.rdfc_ndegree.proofs.Lawful.{nodes-lawful, blanks-all}
+use Rattle.rdfc_ndegree.proofs.RunAgree.{runs-agree, tie-exactly}
+use Rattle.rdfc_ndegree.proofs.RunCarry.{result_f}
+use Rattle.rdfc_ndegree.proofs.TableCarry.{at, table-lawful, table-IsRun, table-issuer, table-WorkOver, table-DepthOver}
+use Rattle.rdfc_canon.specs.Canon.{nodes, labels_of, canonical_ids, NameAll, AnswersRun}
+use Rattle.rdfc_canon.specs.Form.{IsCanon}
+use Rattle.rdfc_canon.specs.Labelling.{all_labels}
+use Rattle.rdfc_canon.specs.Numbering.{AnswersNumbers}
+use Rattle.rdfc_canon.specs.declared.canon.Canon.{Canon}
+use Rattle.rdfc_ndegree.proofs.Steps.{same_fault}
+use Rattle.rdfc_canon.proofs.Labels.{labels-made, labels-blanks, labels-length, numbered, blank_text-once, label_in-is, lines-agree, dataset-named}
+
+-- ---- the labels of a run
+
+module _ (q : List Statement) (r : Result Blank) (d : IsRun (nodes q) r) where
+  covers : (b : Blank) → StandsIn q b → Contains r.issuer b
+  covers b k = issuer-covers (nodes-lawful sha256_digits q) r b d ((blanks-all q b).0 k)
+
+  only : (b : Blank) → Contains r.issuer b → StandsIn q b
+  only b k = (blanks-all q b).1 (issuer-only (nodes-lawful sha256_digits q) r b d k)
+
+  differs : AllDiffer r.issuer
+  differs = issuer-differs (nodes-lawful sha256_digits q) r d
+
+  pub run-names : NameAll q (labels_of q r.issuer)
+  run-names =
+      let blanks = labels-blanks q r.issuer in
+      record {
+        each = λ b. (
+          (λ k. subst (λ ts. Contains ts (blank_text b)) (sym blanks) (Contains-map blank_text r.issuer b (covers b k))),
+          (λ k. let from = Contains-from_map blank_text r.issuer (blank_text b) (subst (λ ts. Contains ts (blank_text b)) blanks k) in
+              subst (StandsIn q) (blank_text-once from.0 b from.2) (only from.0 from.1)),
+        );
+        once = subst AllDiffer (sym blanks) (AllDiffer-map blank_text r.issuer (λ x y k l e. blank_text-once x y e) differs);
+        numbered = numbered q [] r.issuer differs refl ∙ ap canonical_ids (sym (labels-length q r.issuer));
+      }
+
+  pub run-named : All (Names (labels_of q r.issuer)) (map spelled q)
+  run-named = dataset-named q r.issuer covers
+
+  pub run-lines : canonical_lines (label_in (labels_of q r.issuer)) q ≡ canonical_lines (canonical_id (nodes q) r.issuer) q
+  run-lines = lines-agree q (label_in (labels_of q r.issuer)) (canonical_id (nodes q) r.issuer) (λ b k. label_in-is q r.issuer b (covers b k))
+
+-- ---- from the table
+
+pub all-stand : (q : List Statement) (firsts : List BlankHash) (rows : List NodeRow) (t : IsTableWith q firsts [] rows) → All (StandsIn q) t.nodes
+all-stand q firsts rows t = All-weaker (λ b. StandsIn q b ⊎ Contains [] b) (StandsIn q) (λ b e. ⊎_elim (λ k. k) (λ k. absurd (Contains-nil b k)) e) t.nodes t.each
+
+module _ (q : List Statement) (firsts : List BlankHash) (rows : List NodeRow) (t : IsTableWith q firsts [] rows) where
+  pub run-there : (r : Result ℕ) → IsRun (table_nodes rows) r → IsRun (nodes q) (result_f (at t.nodes) r)
+  run-there = table-IsRun q t.nodes rows t.table (all-stand q firsts rows t)
+
+  pub work-there : (n : ℕ) → WorkOver (table_nodes rows) n → WorkOver (nodes q) n
+  work-there = table-WorkOver q t.nodes rows t.table (all-stand q firsts rows t)
+
+  pub depth-there : (n : ℕ) → DepthOver (table_nodes rows) n → DepthOver (nodes q) n
+  depth-there = table-DepthOver q t.nodes rows t.table (all-stand q firsts rows t)
+
+  pub labels-there : IsClosed rows → (r : Result ℕ) → IsRun (table_nodes rows) r → all_labels rows [] r.issuer ≡ labels_of q (map (at t.nodes) r.issuer)
+  labels-there closed r d =
+      labels-made q t.nodes rows t.table [] r.issuer (issuer-differs (table-lawful rows closed) r d) tt (table-issuer q t.nodes rows t.table (all-stand q firsts rows t) r d)
+
+-- What `canonicalise` has at hand: a run over the table, its labels, and lines under them.
+pub record Answered (q : List Statement) (firsts : List BlankHash) (rows : List NodeRow) (quads : List TextQuad) (work_limit depth_limit : ℕ) (labels : List TextLabel) (lines : List (List ℕ)) (tie : Bool) (work : ℕ) : Type 0 where
+  pub issuer : List ℕ
+  pub is : quads ≡ map spelled q
+  pub table : IsTableWith q firsts [] rows
+  pub closed : IsClosed rows
+  pub numbers : AnswersNumbers (table_nodes rows) work_limit depth_limit issuer tie work
+  pub labels_are : labels ≡ all_labels rows [] issuer
+  pub lines_are : All (Names labels) quads → lines ≡ canonical_lines (label_in labels) q
+
+module _ {q : List Statement} {firsts : List BlankHash} {rows : List NodeRow} {quads : List TextQuad} {work_limit depth_limit : ℕ} {labels : List TextLabel} {lines : List (List ℕ)} {tie : Bool} {work : ℕ} (a : Answered q firsts rows quads work_limit depth_limit labels lines tie work) where
+  abbrev its_run : Result Blank
+  its_run = result_f (at a.table.nodes) a.numbers.run
+
+  is_run : IsRun (nodes q) its_run
+  is_run = run-there q firsts rows a.table a.numbers.run a.numbers.is_run
+
+  labels_are : labels ≡ labels_of q its_run.issuer
+  labels_are = a.labels_are ∙ ap (all_labels rows []) a.numbers.issuer_is ∙ labels-there q firsts rows a.table a.closed a.numbers.run a.numbers.is_run
+
+  pub answers-run : AnswersRun q work_limit depth_limit labels lines tie work
+  answers-run = record {
+    run = its_run;
+    is_run = is_run;
+    labels_are = labels_are;
+    lines_are =
+        a.lines_are (subst (λ ls. All (Names ls) quads) (sym labels_are) (subst (All (Names (labels_of q its_run.issuer))) (sym a.is) (run-named q its_run is_run)))
+        ∙ ap (λ ls. canonical_lines (label_in ls) q) labels_are ∙ run-lines q its_run is_run;
+    tie_is = a.numbers.tie_is;
+    work_is = a.numbers.work_is;
+    within_work = a.numbers.within_work;
+    within_depth = a.numbers.within_depth;
+  }
+
+  pub answers-names : NameAll q labels
+  answers-names = subst (NameAll q) (sym labels_are) (run-names q its_run is_run)
+
+  pub answers-tie : (tie ≡ true) ↔ MeetsTie (nodes q)
+  answers-tie =
+      let exactly = tie-exactly is_run in
+      ((λ e. exactly.0 (sym a.numbers.tie_is ∙ e)), (λ m. a.numbers.tie_is ∙ exactly.1 m))
+
+  pub answers-every : tie ≡ false → (r : Result Blank) → IsRun (nodes q) r → labels ≡ labels_of q r.issuer
+  answers-every e r d = labels_are ∙ ap (labels_of q) ((runs-agree is_run d).1 (sym a.numbers.tie_is ∙ e))
+
+pub is-canon : {q : List Statement} {firsts : List BlankHash} {rows : List NodeRow} {quads : List TextQuad} {limits : Limits} {c : Canon} → Answered q firsts rows quads limits.work limits.depth c.labels c.lines c.tie c.work → IsCanon q limits c
+is-canon a = record { answers = answers-run a; names = answers-names a; tie = answers-tie a; every = answers-every a }
+
+pub fault-carried : (q : List Statement) (firsts : List BlankHash) (rows : List NodeRow) (limits : Limits) (e : CanonFault) → IsTableWith q firsts [] rows → IsFaultOf limits (WorkOver (table_nodes rows)) (DepthOver (table_nodes rows)) e
+    → IsFaultOf limits (WorkOver (nodes q)) (DepthOver (nodes q)) e
+fault-carried q firsts rows limits e t h = same_fault refl (work-there q firsts rows t) (depth-there q firsts rows t) e h

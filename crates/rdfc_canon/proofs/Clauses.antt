@@ -1,0 +1,56 @@
+-- The public clauses, from what is answered by cases.
+use Rattle.std.proofs.Common.{◌≡◌, ◌↔◌, ℕ, ◌<◌, ◌≤◌, List, true, false, Result, Ok, Err, IfOk, IsErrAnd, refl, sym, subst, arith}
+use Rattle.nquads.specs.Terms.{Blank, Statement}
+use Rattle.rdfc_ndegree.specs.Evaluations.{IsFaultOf}
+use Rattle.rdfc_ndegree.specs.Run.{IsRun, MeetsTie, WorkOver, DepthOver, WithinLimits}
+use Rattle.rdfc_ndegree.specs.Run as run
+use Rattle.rdfc_ndegree.specs.declared.limits.CanonFault.{CanonFault}
+use Rattle.rdfc_ndegree.specs.declared.limits.CanonFault.TheVariants as fault
+use Rattle.rdfc_ndegree.specs.declared.limits.Limits.{Limits}
+use Rattle.rdfc_canon.specs.Canon.{nodes, labels_of, AnswersRun, NameAll}
+use Rattle.rdfc_canon.specs.Form.{Canonicalised}
+use Rattle.rdfc_canon.specs.declared.canon.Canon.{Canon}
+
+module _ (q : List Statement) (limits : Limits) where
+  pub clause-ok : (r : Result Canon CanonFault) → Canonicalised q limits r → IfOk r (λ (c : Canon). AnswersRun q limits.work limits.depth c.labels c.lines c.tie c.work)
+  clause-ok (Ok c) h = h.answers
+  clause-ok (Err e) h = tt
+
+  pub clause-labels : (r : Result Canon CanonFault) → Canonicalised q limits r → IfOk r (λ (c : Canon). NameAll q c.labels)
+  clause-labels (Ok c) h = h.names
+  clause-labels (Err e) h = tt
+
+  pub clause-tie : (r : Result Canon CanonFault) → Canonicalised q limits r → IfOk r (λ (c : Canon). (c.tie ≡ true) ↔ MeetsTie (nodes q))
+  clause-tie (Ok c) h = h.tie
+  clause-tie (Err e) h = tt
+
+  pub clause-every : (r : Result Canon CanonFault) → Canonicalised q limits r → IfOk r (λ (c : Canon). c.tie ≡ false → (s : run.Result Blank) → IsRun (nodes q) s → c.labels ≡ labels_of q s.issuer)
+  clause-every (Ok c) h = h.every
+  clause-every (Err e) h = tt
+
+  pub clause-work : (r : Result Canon CanonFault) → Canonicalised q limits r → (n : ℕ) → r ≡ Err (fault.TooMuchWork n) → (n ≡ limits.work) × WorkOver (nodes q) n
+  clause-work r h n e = subst (Canonicalised q limits) e h
+
+  pub clause-deep : (r : Result Canon CanonFault) → Canonicalised q limits r → (n : ℕ) → r ≡ Err (fault.TooDeep n) → (n ≡ limits.depth) × DepthOver (nodes q) n
+  clause-deep r h n e = subst (Canonicalised q limits) e h
+
+  only_memory : (e : CanonFault) → WithinLimits (nodes q) limits.work limits.depth → IsFaultOf limits (WorkOver (nodes q)) (DepthOver (nodes q)) e → e ≡ fault.Memory
+  only_memory (fault.TooMuchWork n) w h =
+      let is : n ≡ limits.work = h.0 in
+      let over : n < h.1.run.work = h.1.over in
+      let fits : h.1.run.work ≤ limits.work = (w h.1.run h.1.is_run).0 in
+      absurd (omega arith)
+  only_memory (fault.TooDeep n) w h =
+      let is : n ≡ limits.depth = h.0 in
+      let over : n < h.1.run.depth = h.1.over in
+      let fits : h.1.run.depth ≤ limits.depth = (w h.1.run h.1.is_run).1 in
+      absurd (omega arith)
+  only_memory fault.Memory w h = refl
+
+  pub clause-within : (r : Result Canon CanonFault) → Canonicalised q limits r → WithinLimits (nodes q) limits.work limits.depth → (e : CanonFault) → r ≡ Err e → e ≡ fault.Memory
+  clause-within r h w e is = only_memory e w (subst (Canonicalised q limits) is h)
+
+  -- a fault handed on
+  pub fault-there : (r : Result Canon CanonFault) (e : CanonFault) → IsErrAnd r (λ x. x ≡ e) → IsFaultOf limits (WorkOver (nodes q)) (DepthOver (nodes q)) e → Canonicalised q limits r
+  fault-there (Ok c) e is h = absurd is
+  fault-there (Err x) e is h = subst (IsFaultOf limits (WorkOver (nodes q)) (DepthOver (nodes q))) (sym is) h

@@ -1,0 +1,9 @@
+pub mod Ordered
+pub mod Namings
+pub mod Sorting
+pub mod Hashings
+pub mod Runs
+pub mod Labels
+pub mod Lines
+pub mod Answering
+pub mod Clauses

@@ -1,0 +1,63 @@
+-- Naming numbers in the canonical issuer is what the definition's issuer does.
+use Rattle.std.proofs.Common.{◌≡◌, ℕ, ◌==◌, List, [], ◌∷◌, ◌++◌, length, Contains, false, cond, refl, sym, ap, ◌∙◌, subst, arith, append-nil, append_assoc}
+use Rattle.std.specs.List.{AllZip, list_any}
+use Rattle.std.proofs.lemmas.Bool.Decides.{Decides-eqb}
+use Rattle.std.proofs.lemmas.List.Elements.{Contains-append_left}
+use Rattle.std.proofs.lemmas.List.Sorted.{IsPermutation-middle}
+use Rattle.base_types.specs.Sets.{AllDiffer}
+use Rattle.nquads.proofs.ReadingElements.{AllDiffer-head}
+use Rattle.rdfc_ndegree.specs.Groups.{Group}
+use Rattle.rdfc_ndegree.specs.NDegree.{Outcome}
+use Rattle.rdfc_ndegree.specs.Run.{alone, if_alone, first_groups, take_issuer, take_issuers}
+use Rattle.rdfc_ndegree.specs.Table.{table_nodes}
+use Rattle.rdfc_ndegree.specs.declared.path.NodePath.{NodePath}
+use Rattle.rdfc_ndegree.specs.declared.table.NodeRow.{NodeRow}
+use Rattle.rdfc_ndegree.proofs.AgreeBasics.{list_any-none, false_unless}
+use Rattle.rdfc_ndegree.proofs.CarryBasics.{AllDiffer-permutation}
+use Rattle.rdfc_ndegree.proofs.Labels.{alone-differ}
+use Rattle.rdfc_canon.specs.Numbering.{name_one, name_all, name_each, IsPathOf}
+
+module _ (rows : List NodeRow) where
+  pub name_all-take : (c ns : List ℕ) → name_all c ns ≡ take_issuer (table_nodes rows) c ns
+  unfolding table_nodes
+  name_all-take c [] = refl
+  name_all-take c (n ∷ ns) = name_all-take (name_one c n) ns
+
+  pub name_each-take : (c : List ℕ) (ps : List NodePath) (os : List (Outcome ℕ)) → AllZip IsPathOf ps os → name_each c ps ≡ take_issuers (table_nodes rows) c os
+  name_each-take c [] [] z = refl
+  name_each-take c [] (o ∷ os) z = absurd z
+  name_each-take c (p ∷ ps) [] z = absurd z
+  name_each-take c (p ∷ ps) (o ∷ os) z =
+      ap (λ d. name_each d ps) (ap (name_all c) z.0.issuer ∙ name_all-take c o.issuer)
+      ∙ name_each-take (take_issuer (table_nodes rows) c o.issuer) ps os z.1
+
+pub name_all-append : (c xs ys : List ℕ) → name_all c (xs ++ ys) ≡ name_all (name_all c xs) ys
+name_all-append c [] ys = refl
+name_all-append c (x ∷ xs) ys = name_all-append (name_one c x) xs ys
+
+-- a number that is not named yet comes to the end
+not-named : (c : List ℕ) (n : ℕ) → (Contains c n → ⊥) → list_any (λ m. m == n) c ≡ false
+not-named c n new = list_any-none (λ m. m == n) c (λ m k. false_unless (m == n) (λ e. new (subst (Contains c) ((Decides-eqb m n).0 e) k)))
+
+-- numbers that differ are named as they come
+pub name_all-differ : (c ns : List ℕ) → AllDiffer (c ++ ns) → name_all c ns ≡ c ++ ns
+name_all-differ c [] a = sym (append-nil c)
+name_all-differ c (n ∷ ns) a =
+    let front : AllDiffer (n ∷ (c ++ ns)) = AllDiffer-permutation (c ++ n ∷ ns) (n ∷ (c ++ ns)) (IsPermutation-middle c n ns) a in
+    let none : list_any (λ m. m == n) c ≡ false = not-named c n (λ k. AllDiffer-head n (c ++ ns) front (Contains-append_left c ns n k)) in
+    let moved : (c ++ n ∷ []) ++ ns ≡ c ++ n ∷ ns = append_assoc c (n ∷ []) ns in
+    ap (λ b. name_all (cond b c (c ++ n ∷ [])) ns) none ∙ name_all-differ (c ++ n ∷ []) ns (subst AllDiffer (sym moved) a) ∙ moved
+
+pub alone-named : (rows : List NodeRow) (gs : List (Group ℕ)) → gs ≡ first_groups (table_nodes rows) → name_all [] (alone gs) ≡ alone (first_groups (table_nodes rows))
+alone-named rows gs e = ap (λ hs. name_all [] (alone hs)) e ∙ name_all-differ [] (alone (first_groups (table_nodes rows))) (alone-differ (table_nodes rows))
+
+-- the members of a group of one, and of any other
+pub alone-one : (c : List ℕ) (ms : List ℕ) (rest : List ℕ) → length ms ≡ 1 → name_all c (if_alone ms ++ rest) ≡ name_all (name_all c ms) rest
+alone-one c [] rest e = absurd (omega arith)
+alone-one c (m ∷ []) rest e = refl
+alone-one c (m ∷ (n ∷ ns)) rest e = absurd (omega arith)
+
+pub alone-other : (ms : List ℕ) (rest : List ℕ) → (length ms == 1) ≡ false → if_alone ms ++ rest ≡ rest
+alone-other [] rest e = refl
+alone-other (m ∷ []) rest e = absurd (cc)
+alone-other (m ∷ (n ∷ ns)) rest e = refl

@@ -1,0 +1,148 @@
+-- The groups of a run: the start, a step and the end, and how a fault in mid-run is one of a whole run.
+use Rattle.std.proofs.Common.{◌≡◌, ℕ, ◌+◌, ◌<◌, ◌≤◌, max, List, [], ◌∷◌, map, length, get_or, drop, All, Contains, Bool, true, false, ◌||◌, refl, sym, ap, ◌∙◌, subst, arith, add-one, drop-cons, drop_of_length-le}
+use Rattle.std.proofs.lemmas.List.Elements.{All-drop}
+use Rattle.rdfc_ndegree.specs.Nodes.{Nodes, AreNodes}
+use Rattle.rdfc_ndegree.specs.Groups.{Group}
+use Rattle.rdfc_ndegree.specs.NDegree.{Outcome}
+use Rattle.rdfc_ndegree.specs.Lack.{AreListed}
+use Rattle.rdfc_ndegree.specs.Evaluations.{IsFaultOf}
+use Rattle.rdfc_ndegree.specs.Kept.{group_in}
+use Rattle.rdfc_ndegree.specs.Run.{alone, first_groups, lacking, take_issuers, work_of, depth_of, results_tie, Result, run_end, run_more, Rounds, IsRun, WorkOver, DepthOver}
+use Rattle.rdfc_ndegree.specs.Table.{table_nodes}
+use Rattle.rdfc_ndegree.specs.declared.limits.CanonFault.{CanonFault}
+use Rattle.rdfc_ndegree.specs.declared.limits.Limits.{Limits}
+use Rattle.rdfc_ndegree.specs.declared.limits.Meter.{Meter}
+use Rattle.rdfc_ndegree.specs.declared.related.NodeGroup.{NodeGroup}
+use Rattle.rdfc_ndegree.specs.declared.table.NodeRow.{NodeRow}
+use Rattle.rdfc_ndegree.proofs.Exists.{in_hash_order, rounds-exist}
+use Rattle.rdfc_ndegree.proofs.Loops.{Counting, counting-start, counting-turn}
+use Rattle.rdfc_ndegree.proofs.Rows.{groups-rows}
+use Rattle.rdfc_ndegree.proofs.Steps.{same_fault}
+use Rattle.rdfc_canon.specs.Numbering.{AnswersRound, AnswersNumbers, HashesOver, HashesDeep, Running, adding, name_all}
+use Rattle.rdfc_canon.proofs.Namings.{alone-named}
+
+or_none : (b : Bool) → b ≡ (b || false)
+or_none true = refl
+or_none false = refl
+
+or_assoc : (a b d : Bool) → (a || (b || d)) ≡ ((a || b) || d)
+or_assoc true b d = refl
+or_assoc false b d = refl
+
+module _ {B : Type 0} (v : Nodes B) where
+  adding-none : (r : Result B) → r ≡ adding false 0 0 r
+  adding-none r =
+      let w : r.work ≡ 0 + r.work = omega arith in
+      let d : r.depth ≡ max 0 r.depth = omega arith in
+      λ i. record { issuer = r.issuer; tie = r.tie; work = w i; depth = d i }
+
+  adding-more : (tie tied : Bool) (spent next deep : ℕ) (os : List (Outcome B)) (r : Result B) → tied ≡ results_tie os → next ≡ spent + work_of os → adding tie spent deep (run_more os r) ≡ adding (tie || tied) next (max deep (depth_of os)) r
+  adding-more tie tied spent next deep os r is new =
+      let t = or_assoc tie (results_tie os) r.tie ∙ ap (λ b. (tie || b) || r.tie) (sym is) in
+      let w : spent + (work_of os + r.work) ≡ next + r.work = omega arith in
+      let d : max deep (max (depth_of os) r.depth) ≡ max (max deep (depth_of os)) r.depth = omega arith in
+      λ i. record { issuer = r.issuer; tie = t i; work = w i; depth = d i }
+
+  pub running-start : (c : List B) (gs : List (Group B)) (limit : ℕ) → c ≡ alone (first_groups v) → gs ≡ first_groups v → Running v c false gs 0 limit
+  running-start c gs limit begun all = record {
+    deep = 0;
+    goes_on = λ r d. subst (IsRun v) (adding-none r) (record { rounds = subst (λ hs. Rounds v (alone (first_groups v)) hs r) all (subst (λ e. Rounds v e gs r) begun d) });
+    within = omega arith;
+  }
+
+  pub running-turn : {c d : List B} {tie tied : Bool} {g : Group B} {gs : List (Group B)} {spent next limit : ℕ} → Running v c tie (g ∷ gs) spent limit → AnswersRound v c g.members d tied spent next limit → Running v d (tie || tied) gs next limit
+  running-turn {c = c} {d = d} {tie = tie} {tied = tied} {g = g} {gs = gs} {spent = spent} {next = next} {limit = limit} w a =
+      let low : w.deep ≤ limit = w.within in
+      let here : depth_of a.outcomes ≤ limit = a.within in
+      record {
+        deep = max w.deep (depth_of a.outcomes);
+        goes_on = λ r k.
+            subst (IsRun v) (adding-more tie tied spent next w.deep a.outcomes r a.tie_is a.spent)
+            (w.goes_on (run_more a.outcomes r) record { outcomes = a.outcomes; sorted = a.sorted; rest = r; hashed = a.hashed; order = a.order; in_order = a.in_order; goes_on = subst (λ e. Rounds v e gs r) a.issuer_is k; is = refl });
+        within = omega arith;
+      }
+
+  pub running-end : {c : List B} {tie : Bool} {spent work_limit limit : ℕ} → Running v c tie [] spent limit → spent ≤ work_limit → AnswersNumbers v work_limit limit c tie spent
+  running-end {c = c} {tie = tie} {spent = spent} {work_limit = work_limit} {limit = limit} w fits =
+      let low : w.deep ≤ limit = w.within in
+      record {
+        run = adding tie spent w.deep (run_end c);
+        is_run = w.goes_on (run_end c) refl;
+        issuer_is = refl;
+        tie_is = or_none tie;
+        work_is = omega arith;
+        within_work = omega arith;
+        within_depth = omega arith;
+      }
+
+module _ {B : Type 0} {v : Nodes B} (laws : AreNodes v) where
+  pub running-over : {c : List B} {tie : Bool} {g : Group B} {gs : List (Group B)} {spent limit : ℕ} → ((h : Group B) → Contains gs h → AreListed v h.members) → Running v c tie (g ∷ gs) spent limit
+      → (n : ℕ) → HashesOver v c (lacking v c g.members) spent n → WorkOver v n
+  running-over {c = c} {tie = tie} {g = g} {gs = gs} {spent = spent} listed w n d =
+      let sorted = in_hash_order d.outcomes in
+      let rest = rounds-exist laws (take_issuers v c sorted.0) gs listed in
+      let over : n < spent + work_of d.outcomes = d.over in
+      record {
+        run = adding tie spent w.deep (run_more d.outcomes rest.0);
+        is_run = w.goes_on (run_more d.outcomes rest.0) record { outcomes = d.outcomes; sorted = sorted.0; rest = rest.0; hashed = d.hashed; order = sorted.1; in_order = sorted.2; goes_on = rest.1; is = refl };
+        over = omega arith;
+      }
+
+  pub running-deep : {c : List B} {tie : Bool} {g : Group B} {gs : List (Group B)} {spent limit : ℕ} → ((h : Group B) → Contains gs h → AreListed v h.members) → Running v c tie (g ∷ gs) spent limit
+      → (n : ℕ) → HashesDeep v c (lacking v c g.members) n → DepthOver v n
+  running-deep {c = c} {tie = tie} {g = g} {gs = gs} {spent = spent} listed w n d =
+      let sorted = in_hash_order d.outcomes in
+      let rest = rounds-exist laws (take_issuers v c sorted.0) gs listed in
+      let over : n < depth_of d.outcomes = d.over in
+      record {
+        run = adding tie spent w.deep (run_more d.outcomes rest.0);
+        is_run = w.goes_on (run_more d.outcomes rest.0) record { outcomes = d.outcomes; sorted = sorted.0; rest = rest.0; hashed = d.hashed; order = sorted.1; in_order = sorted.2; goes_on = rest.1; is = refl };
+        over = omega arith;
+      }
+
+-- ---- with what the program has at hand
+
+-- the loop over the groups `rest`
+pub record InRunLoop (rows : List NodeRow) (c : List ℕ) (tie : Bool) (rest : List NodeGroup) (before meter : Meter) : Type 0 where
+  pub counting : Counting before meter
+  pub running : Running (table_nodes rows) c tie (map group_in rest) meter.spent before.limits.depth
+
+module _ (rows : List NodeRow) where
+  next_item : {X : Type 0} (xs : List X) (k : ℕ) (x : X) → k < length xs → x ≡ get_or xs k x → drop k xs ≡ x ∷ drop (k + 1) xs
+  next_item xs k x lt is = rw add-one (drop-cons xs k x lt) ∙ ap (λ y. y ∷ drop (k + 1) xs) (sym is)
+
+  pub run-start : (c : List ℕ) (gs : List NodeGroup) (meter : Meter) → meter.spent ≡ 0 → c ≡ name_all [] (alone (map group_in gs)) → map group_in gs ≡ first_groups (table_nodes rows) → InRunLoop rows c false gs meter meter
+  run-start c gs meter none begun all = record {
+    counting = counting-start meter;
+    running =
+        subst (λ s. Running (table_nodes rows) c false (map group_in gs) s meter.limits.depth) (sym none)
+        (running-start (table_nodes rows) c (map group_in gs) meter.limits.depth (begun ∙ alone-named rows (map group_in gs) all) all);
+  }
+
+  pub run-turn : (gs : List NodeGroup) (k : ℕ) (g : NodeGroup) {c : List ℕ} {tie : Bool} {before meter : Meter} (d : List ℕ) (tied : Bool) (next : Meter) → k < length gs → g ≡ get_or gs k g
+      → InRunLoop rows c tie (drop k gs) before meter → AnswersRound (table_nodes rows) c g.members d tied meter.spent next.spent meter.limits.depth
+      → next.limits ≡ meter.limits → (meter.spent ≤ meter.limits.work → next.spent ≤ meter.limits.work)
+      → InRunLoop rows d (tie || tied) (drop (k + 1) gs) before next
+  run-turn gs k g {c = c} {tie = tie} {before = before} {meter = meter} d tied next lt is w a same kept = record {
+    counting = counting-turn w.counting same kept;
+    running =
+        running-turn (table_nodes rows)
+        (subst (λ r. Running (table_nodes rows) c tie (map group_in r) meter.spent before.limits.depth) (next_item gs k g lt is) w.running)
+        (subst (λ (l : Limits). AnswersRound (table_nodes rows) c g.members d tied meter.spent next.spent l.depth) w.counting.limits a);
+  }
+
+  pub run-fault : AreNodes (table_nodes rows) → (gs : List NodeGroup) (k : ℕ) (g : NodeGroup) {c : List ℕ} {tie : Bool} {before meter : Meter} → k < length gs → g ≡ get_or gs k g
+      → All (λ (h : NodeGroup). All (λ m. m < length rows) h.members) gs → InRunLoop rows c tie (drop k gs) before meter → (e : CanonFault)
+      → IsFaultOf meter.limits (HashesOver (table_nodes rows) c (lacking (table_nodes rows) c g.members) meter.spent) (HashesDeep (table_nodes rows) c (lacking (table_nodes rows) c g.members)) e
+      → IsFaultOf before.limits (WorkOver (table_nodes rows)) (DepthOver (table_nodes rows)) e
+  run-fault laws gs k g {c = c} {tie = tie} {before = before} {meter = meter} lt is all w e h =
+      let here : Running (table_nodes rows) c tie (group_in g ∷ map group_in (drop (k + 1) gs)) meter.spent before.limits.depth =
+      subst (λ r. Running (table_nodes rows) c tie (map group_in r) meter.spent before.limits.depth) (next_item gs k g lt is) w.running in
+      let listed = groups-rows rows (drop (k + 1) gs) (All-drop (λ (x : NodeGroup). All (λ m. m < length rows) x.members) (k + 1) gs all) in
+      same_fault w.counting.limits (λ n d. running-over laws listed here n d) (λ n d. running-deep laws listed here n d) e h
+
+  pub run-finish : (gs : List NodeGroup) (k : ℕ) {c : List ℕ} {tie : Bool} {before meter : Meter} → length gs ≤ k → before.spent ≡ 0 → InRunLoop rows c tie (drop k gs) before meter
+      → AnswersNumbers (table_nodes rows) before.limits.work before.limits.depth c tie meter.spent
+  run-finish gs k {c = c} {tie = tie} {before = before} {meter = meter} past none w =
+      let fits : before.spent ≤ before.limits.work = omega arith in
+      running-end (table_nodes rows) (subst (λ r. Running (table_nodes rows) c tie (map group_in r) meter.spent before.limits.depth) (drop_of_length-le gs past) w.running) (w.counting.kept fits)

@@ -1,0 +1,45 @@
+-- What canonicalization answers. RDF Canonicalization, 4.4.
+use Rattle.std.specs.Prelude.{◌≡◌, ◌≤◌, ◌↔◌, ℕ, List, ◌++◌, Bool, map, length, codes, decimal, Contains}
+use Rattle.base_types.specs.Sets.{AllDiffer}
+use Rattle.digest_mac.specs.Digests.{sha256_digits}
+use Rattle.nquads.specs.Terms.{Blank, Statement}
+use Rattle.nquads.specs.Renaming.{StandsIn}
+use Rattle.nquads.specs.Spelling.{blank_text}
+use Rattle.nquads.specs.Lines.{canonical_lines}
+use Rattle.nquads.specs.Texts.{label}
+use Rattle.nquads.specs.declared.labels.TextLabel.{TextLabel}
+use Rattle.rdfc_ndegree.specs.Nodes.{Nodes}
+use Rattle.rdfc_ndegree.specs.Issuers.{canonical_id}
+use Rattle.rdfc_ndegree.specs.Datasets.{nodes_of}
+use Rattle.rdfc_ndegree.specs.Table.{numbers_below}
+pub use Rattle.rdfc_ndegree.specs.Run.{Result, IsRun, MeetsTie, WorkOver, DepthOver, WithinLimits, HasLabels}
+
+-- the blank nodes of a dataset, with SHA-256 as the hash algorithm. -- RDF Canonicalization, 4.3
+abbrev pub nodes : List Statement → Nodes Blank
+nodes q = nodes_of sha256_digits q
+
+-- the labels that a canonical issuer gives, in its order
+abbrev pub labels_of : List Statement → List Blank → List TextLabel
+labels_of q c = map (λ b. label (blank_text b) (canonical_id (nodes q) c b)) c
+
+-- the identifiers c14n0, c14n1 and so on, this many
+abbrev pub canonical_ids : ℕ → List (List ℕ)
+canonical_ids n = map (λ k. codes "c14n" ++ decimal k) (numbers_below n)
+
+-- The labels name each blank node of the dataset once, and are c14n0, c14n1 and so on, in this order.
+pub record NameAll (q : List Statement) (labels : List TextLabel) : Type 0 where
+  pub each : (b : Blank) → StandsIn q b ↔ Contains (map (λ (l : TextLabel). l.blank) labels) (blank_text b)
+  pub once : AllDiffer (map (λ (l : TextLabel). l.blank) labels)
+  pub numbered : map (λ (l : TextLabel). l.text) labels ≡ canonical_ids (length labels)
+
+-- The labels, the tie and the work are those of one run, neither its work nor its depth is over its limit,
+-- and the lines are those of the dataset under its labels, in code-point order.
+pub record AnswersRun (q : List Statement) (work_limit depth_limit : ℕ) (labels : List TextLabel) (lines : List (List ℕ)) (tie : Bool) (work : ℕ) : Type 0 where
+  pub run : Result Blank
+  pub is_run : IsRun (nodes q) run
+  pub labels_are : labels ≡ labels_of q run.issuer
+  pub lines_are : lines ≡ canonical_lines (canonical_id (nodes q) run.issuer) q
+  pub tie_is : tie ≡ run.tie
+  pub work_is : work ≡ run.work
+  pub within_work : run.work ≤ work_limit
+  pub within_depth : run.depth ≤ depth_limit

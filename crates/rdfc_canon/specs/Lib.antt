@@ -1,0 +1,4 @@
+pub mod Canon
+pub mod Form
+pub mod Labelling
+pub mod Numbering

@@ -1,0 +1,63 @@
+//! Laws of canonical labelling: each is the contract of a function that does nothing.
+
+ghost use Rattle.std.specs.Prelude.{◌≡◌, ◌↔◌, ℕ, List, map, true, false, Contains, IsPermutation};
+ghost use Rattle.base_types.specs.Sets.{AllDiffer};
+ghost use Rattle.nquads.specs.Terms.{Blank, IsDataset, Statement};
+ghost use Rattle.nquads.specs.Renaming.{Same, StandsIn, applied};
+ghost use Rattle.nquads.specs.Lines.{canonical_text};
+ghost use Rattle.rdfc_ndegree.specs.Issuers.{canonical_id};
+ghost use Rattle.rdfc_ndegree.specs.Datasets.{nodes_of};
+ghost use Rattle.rdfc_canon.specs.Canon.{DepthOver, HasLabels, IsRun, MeetsTie, Result, WorkOver};
+
+/// Every dataset has a run, whatever the digest is.
+pub fn every_dataset_has_a_run()
+    ensures { (digest : List ℕ → List ℕ) (q : List Statement) → (r : Result Blank) × IsRun (nodes_of digest q) r }
+{}
+
+/// The runs of a dataset agree on whether a tie is met, and without one on the canonical issuer.
+pub fn runs_agree()
+    ensures tie { (digest : List ℕ → List ℕ) (q : List Statement) (r s : Result Blank)
+        → IsRun (nodes_of digest q) r → IsRun (nodes_of digest q) s → r.tie ≡ s.tie }
+    ensures labels { (digest : List ℕ → List ℕ) (q : List Statement) (r s : Result Blank)
+        → IsRun (nodes_of digest q) r → IsRun (nodes_of digest q) s → r.tie ≡ false → r.issuer ≡ s.issuer }
+{}
+
+/// The canonical issuer of a run names each blank node of the dataset once, and nothing else.
+pub fn a_run_names_each_blank_node_once()
+    ensures each { (digest : List ℕ → List ℕ) (q : List Statement) (r : Result Blank) (b : Blank)
+        → IsRun (nodes_of digest q) r → StandsIn q b ↔ Contains r.issuer b }
+    ensures once { (digest : List ℕ → List ℕ) (q : List Statement) (r : Result Blank)
+        → IsRun (nodes_of digest q) r → AllDiffer r.issuer }
+{}
+
+/// Labelling does not depend on the names of blank nodes: two datasets that are the same up to these meet
+/// ties alike, have the same work and depth over their runs, and without a tie the same labels and the
+/// same canonical text.
+pub fn names_do_not_matter()
+    ensures ties { (digest : List ℕ → List ℕ) (q p : List Statement) → Same q p → IsDataset q → IsDataset p
+        → MeetsTie (nodes_of digest q) ↔ MeetsTie (nodes_of digest p) }
+    ensures work { (digest : List ℕ → List ℕ) (q p : List Statement) (n : ℕ) → Same q p → IsDataset q → IsDataset p
+        → WorkOver (nodes_of digest q) n ↔ WorkOver (nodes_of digest p) n }
+    ensures depth { (digest : List ℕ → List ℕ) (q p : List Statement) (n : ℕ) → Same q p → IsDataset q → IsDataset p
+        → DepthOver (nodes_of digest q) n ↔ DepthOver (nodes_of digest p) n }
+    ensures labels { (digest : List ℕ → List ℕ) (q p : List Statement) (s : Same q p) (c : List Blank) → IsDataset q → IsDataset p
+        → HasLabels (nodes_of digest q) c → HasLabels (nodes_of digest p) (map (applied s.pairs) c) }
+    ensures text { (digest : List ℕ → List ℕ) (q p : List Statement) (c d : List Blank) → Same q p → IsDataset q → IsDataset p
+        → HasLabels (nodes_of digest q) c → HasLabels (nodes_of digest p) d
+        → canonical_text (canonical_id (nodes_of digest q) c) q ≡ canonical_text (canonical_id (nodes_of digest p) d) p }
+{}
+
+/// Nor does it depend on the order of the statements.
+pub fn order_does_not_matter()
+    ensures ties { (digest : List ℕ → List ℕ) (q p : List Statement) → IsPermutation q p
+        → MeetsTie (nodes_of digest q) ↔ MeetsTie (nodes_of digest p) }
+    ensures work { (digest : List ℕ → List ℕ) (q p : List Statement) (n : ℕ) → IsPermutation q p
+        → WorkOver (nodes_of digest q) n ↔ WorkOver (nodes_of digest p) n }
+    ensures depth { (digest : List ℕ → List ℕ) (q p : List Statement) (n : ℕ) → IsPermutation q p
+        → DepthOver (nodes_of digest q) n ↔ DepthOver (nodes_of digest p) n }
+    ensures labels { (digest : List ℕ → List ℕ) (q p : List Statement) (c : List Blank) → IsPermutation q p
+        → HasLabels (nodes_of digest q) c → HasLabels (nodes_of digest p) c }
+    ensures text { (digest : List ℕ → List ℕ) (q p : List Statement) (c d : List Blank) → IsPermutation q p
+        → HasLabels (nodes_of digest q) c → HasLabels (nodes_of digest p) d
+        → canonical_text (canonical_id (nodes_of digest q) c) q ≡ canonical_text (canonical_id (nodes_of digest p) d) p }
+{}

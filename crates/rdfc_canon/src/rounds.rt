@@ -1,0 +1,104 @@
+//! One group of nodes that have one first-degree hash (RDF Dataset Canonicalization, 4.4.3, step 5).
+ghost use Rattle.std.specs.Prelude.{◌≡◌, ◌<◌, ◌≤◌, ◌++◌, ◌∷◌, [], All, length, map, IfOk, IfErr};
+ghost use Rattle.rdfc_ndegree.specs.Evaluations.{IsFaultOf};
+ghost use Rattle.rdfc_ndegree.specs.Run.{lacking};
+ghost use Rattle.rdfc_ndegree.specs.Table.{IsClosed, table_nodes};
+ghost use Rattle.rdfc_canon.specs.Numbering.{AnswersHashes, AnswersRound, HashesDeep, HashesOver, neighbours_tie, next_has};
+
+use crate::naming::name_paths;
+use rdfc_ndegree::{
+    CanonFault, Canonical, Memory, Meter, NodePath, NodeTable, Sequence, hash_n_degree,
+};
+use std::alloc::Global;
+
+/// Hashes each member that has no canonical number, and gives numbers in the order of the hashes. Whether
+/// two members have one hash, or one met a tie that counts.
+///
+/// Errors: those of `hash_n_degree`.
+pub fn round(
+    alloc: Global,
+    table: &NodeTable,
+    canonical: &mut Canonical,
+    members: &[usize],
+    meter: &mut Meter,
+) -> Result<bool, CanonFault>
+    requires closed { IsClosed table.now }
+    requires members { All (λ k. k < length table.now) members.now }
+    ensures limits { meter.new.limits ≡ meter.old.limits }
+    ensures kept { meter.old.spent ≤ meter.old.limits.work → IfOk result (λ _. meter.new.spent ≤ meter.old.limits.work) }
+    ensures ok { IfOk result (λ tie. AnswersRound (table_nodes table.now) canonical.old members.now canonical.new tie meter.old.spent meter.new.spent meter.old.limits.depth) }
+    ensures fault { IfErr result (IsFaultOf meter.old.limits
+        (HashesOver (table_nodes table.now) canonical.old (lacking (table_nodes table.now) canonical.old members.now) meter.old.spent)
+        (HashesDeep (table_nodes table.now) canonical.old (lacking (table_nodes table.now) canonical.old members.now))) }
+{
+    let mut paths = hash_members(alloc, table, canonical, members, meter)?;
+    paths.sort_unstable_by_key(
+        |path: &NodePath|
+            ensures { result ≡ path.entry.now.hash }
+        { path.hash },
+    );
+    let tie = meets_tie(paths.as_slice());
+    name_paths(canonical, paths.as_slice())?;
+    Ok(tie)
+}
+
+/// The n-degree hash of each member without canonical number, each with a new issuer that has named it alone.
+fn hash_members(
+    alloc: Global,
+    table: &NodeTable,
+    canonical: &Canonical,
+    members: &[usize],
+    meter: &mut Meter,
+) -> Result<Vec<NodePath>, CanonFault>
+    requires closed { IsClosed table.now }
+    requires members { All (λ k. k < length table.now) members.now }
+    ensures limits { meter.new.limits ≡ meter.old.limits }
+    ensures kept { meter.old.spent ≤ meter.old.limits.work → IfOk result (λ _. meter.new.spent ≤ meter.old.limits.work) }
+    ensures ok { IfOk result (λ paths. AnswersHashes (table_nodes table.now) canonical.now (lacking (table_nodes table.now) canonical.now members.now) paths.items meter.old.spent meter.new.spent meter.old.limits.depth) }
+    ensures fault { IfErr result (IsFaultOf meter.old.limits
+        (HashesOver (table_nodes table.now) canonical.now (lacking (table_nodes table.now) canonical.now members.now) meter.old.spent)
+        (HashesDeep (table_nodes table.now) canonical.now (lacking (table_nodes table.now) canonical.now members.now))) }
+{
+    let mut paths = Vec::new(alloc);
+    for member in members {
+        if canonical.number(*member).is_none() {
+            let issuer = issuer_of(alloc, *member)?;
+            let path = hash_n_degree(alloc, table, canonical, *member, issuer, 1, meter)?;
+            paths.push(path)?;
+        }
+    }
+    Ok(paths)
+}
+
+/// A new issuer that has named one node.
+fn issuer_of(alloc: Global, node: usize) -> Result<Sequence<usize>, Memory>
+    ensures { IfOk result (λ issuer. issuer ≡ node ∷ []) }
+{
+    let mut issuer = Sequence::new(alloc);
+    issuer.push(node)?;
+    Ok(issuer)
+}
+
+/// Whether a result met a tie that counts, or two neighbours have one hash.
+fn meets_tie(paths: &[NodePath]) -> bool
+    ensures { result ≡ neighbours_tie paths.now }
+{
+    let mut rest = paths;
+    while let Some((path, later)) = rest.split_first() {
+        if path.tie || starts_with(later, &path.hash) {
+            return true;
+        }
+        rest = later;
+    }
+    false
+}
+
+/// Whether the first result has this hash.
+fn starts_with(paths: &[NodePath], hash: &[u8; 64]) -> bool
+    ensures { result ≡ next_has hash.now paths.now }
+{
+    match paths.first() {
+        Some(path) => path.hash == *hash,
+        None => false,
+    }
+}
