@@ -6,3 +6,5 @@ pub mod Meaning
 pub mod Complete
 pub mod Datasets
 pub mod Answering
+pub mod Reductions
+pub mod MadeRequests

@@ -8,7 +8,7 @@ use Rattle.nquads.specs.declared.quads.TextQuad.{TextQuad}
 use Rattle.ld_rdf.specs.declared.fault.FlatFault.{FlatFault}
 use Rattle.ld_rdf.specs.declared.fault.FlatFault.TheVariants.{NotBuilt, Memory}
 use Rattle.ld_rdf.specs.Flat.{property_statement}
-use Rattle.ld_rdf.specs.Parts.{property_of, is_entry, statements_in}
+use Rattle.ld_rdf.specs.Parts.{property_of, is_left_out, statements_beside}
 use Rattle.ld_rdf.specs.Answers.{Answers, AnswersItems}
 use Rattle.ld_rdf.proofs.Helpers.{option_map-Some, option_map-None}
 
@@ -22,32 +22,32 @@ next ms at m within is =
     split ∙ ap (λ (x : Member Tree). x ∷ drop (at + 1) ms) (sym is)
 
 -- the statements from a member on
-from_entry : (terms : List (Member Tree)) (id : List ℕ) (ms : List (Member Tree)) (at : ℕ) (m : Member Tree) → at < length ms → m ≡ get_or ms at m → is_entry m.key ≡ true → statements_in terms id (drop at ms) ≡ statements_in terms id (drop (at + 1) ms)
-from_entry terms id ms at m within is h = ap (statements_in terms id) (next ms at m within is) ∙ rw h
+from_entry : (besides : List ℕ) (terms : List (Member Tree)) (id : List ℕ) (ms : List (Member Tree)) (at : ℕ) (m : Member Tree) → at < length ms → m ≡ get_or ms at m → is_left_out besides m.key ≡ true → statements_beside besides terms id (drop at ms) ≡ statements_beside besides terms id (drop (at + 1) ms)
+from_entry besides terms id ms at m within is h = ap (statements_beside besides terms id) (next ms at m within is) ∙ rw h
 
-from_property : (terms : List (Member Tree)) (id : List ℕ) (ms : List (Member Tree)) (at : ℕ) (m : Member Tree) → at < length ms → m ≡ get_or ms at m → is_entry m.key ≡ false → statements_in terms id (drop at ms) ≡ option_and_then (λ p. option_map (λ more. property_statement id p.0 p.1 ∷ more) (statements_in terms id (drop (at + 1) ms))) (property_of terms m)
-from_property terms id ms at m within is h = ap (statements_in terms id) (next ms at m within is) ∙ rw h
+from_property : (besides : List ℕ) (terms : List (Member Tree)) (id : List ℕ) (ms : List (Member Tree)) (at : ℕ) (m : Member Tree) → at < length ms → m ≡ get_or ms at m → is_left_out besides m.key ≡ false → statements_beside besides terms id (drop at ms) ≡ option_and_then (λ p. option_map (λ more. property_statement id p.0 p.1 ∷ more) (statements_beside besides terms id (drop (at + 1) ms))) (property_of terms m)
+from_property besides terms id ms at m within is h = ap (statements_beside besides terms id) (next ms at m within is) ∙ rw h
 
-pub turn_entry : (whole : Option (List TextQuad)) (done : List TextQuad) (terms : List (Member Tree)) (id : List ℕ) (ms : List (Member Tree)) (at : ℕ) (m : Member Tree) → whole ≡ left done (statements_in terms id (drop at ms)) → at < length ms → m ≡ get_or ms at m → is_entry m.key ≡ true → whole ≡ left done (statements_in terms id (drop (at + 1) ms))
-turn_entry whole done terms id ms at m h within is e = h ∙ ap (left done) (from_entry terms id ms at m within is e)
+pub turn_entry : (besides : List ℕ) (whole : Option (List TextQuad)) (done : List TextQuad) (terms : List (Member Tree)) (id : List ℕ) (ms : List (Member Tree)) (at : ℕ) (m : Member Tree) → whole ≡ left done (statements_beside besides terms id (drop at ms)) → at < length ms → m ≡ get_or ms at m → is_left_out besides m.key ≡ true → whole ≡ left done (statements_beside besides terms id (drop (at + 1) ms))
+turn_entry besides whole done terms id ms at m h within is e = h ∙ ap (left done) (from_entry besides terms id ms at m within is e)
 
 one_more : (done : List TextQuad) (s : Statement) (o : Option (List Statement)) → left done (option_map (λ more. s ∷ more) o) ≡ left (done ++ spelled s ∷ []) o
 one_more done s None = refl
 one_more done s (Some more) = ap Some (sym (append_assoc done (spelled s ∷ []) (map spelled more)))
 
-pub turn_property : (whole : Option (List TextQuad)) (done : List TextQuad) (terms : List (Member Tree)) (id : List ℕ) (ms : List (Member Tree)) (at : ℕ) (m : Member Tree) (quad : TextQuad) → whole ≡ left done (statements_in terms id (drop at ms)) → at < length ms → m ≡ get_or ms at m → is_entry m.key ≡ false → option_map (λ p. spelled (property_statement id p.0 p.1)) (property_of terms m) ≡ Some quad → whole ≡ left (done ++ quad ∷ []) (statements_in terms id (drop (at + 1) ms))
-turn_property whole done terms id ms at m quad h within is e made =
+pub turn_property : (besides : List ℕ) (whole : Option (List TextQuad)) (done : List TextQuad) (terms : List (Member Tree)) (id : List ℕ) (ms : List (Member Tree)) (at : ℕ) (m : Member Tree) (quad : TextQuad) → whole ≡ left done (statements_beside besides terms id (drop at ms)) → at < length ms → m ≡ get_or ms at m → is_left_out besides m.key ≡ false → option_map (λ p. spelled (property_statement id p.0 p.1)) (property_of terms m) ≡ Some quad → whole ≡ left (done ++ quad ∷ []) (statements_beside besides terms id (drop (at + 1) ms))
+turn_property besides whole done terms id ms at m quad h within is e made =
     let p = option_map-Some (λ (p : List ℕ × List ℕ). spelled (property_statement id p.0 p.1)) (property_of terms m) quad made in
-    let rest : Option (List Statement) = statements_in terms id (drop (at + 1) ms) in
-    let here : statements_in terms id (drop at ms) ≡ option_map (λ more. property_statement id p.0.0 p.0.1 ∷ more) rest =
-    from_property terms id ms at m within is e ∙ ap (option_and_then (λ (q : List ℕ × List ℕ). option_map (λ more. property_statement id q.0 q.1 ∷ more) rest)) p.1 in
+    let rest : Option (List Statement) = statements_beside besides terms id (drop (at + 1) ms) in
+    let here : statements_beside besides terms id (drop at ms) ≡ option_map (λ more. property_statement id p.0.0 p.0.1 ∷ more) rest =
+    from_property besides terms id ms at m within is e ∙ ap (option_and_then (λ (q : List ℕ × List ℕ). option_map (λ more. property_statement id q.0 q.1 ∷ more) rest)) p.1 in
     h ∙ ap (left done) here ∙ one_more done (property_statement id p.0.0 p.0.1) rest ∙ ap (λ (q : TextQuad). left (done ++ q ∷ []) rest) p.2
 
-pub turn_fault : (whole : Option (List TextQuad)) (done : List TextQuad) (terms : List (Member Tree)) (id : List ℕ) (ms : List (Member Tree)) (at : ℕ) (m : Member Tree) (fault : FlatFault) → whole ≡ left done (statements_in terms id (drop at ms)) → at < length ms → m ≡ get_or ms at m → is_entry m.key ≡ false → Answers (option_map (λ p. spelled (property_statement id p.0 p.1)) (property_of terms m)) (Err fault) → AnswersItems whole (Err fault)
-turn_fault whole done terms id ms at m NotBuilt h within is e missing =
+pub turn_fault : (besides : List ℕ) (whole : Option (List TextQuad)) (done : List TextQuad) (terms : List (Member Tree)) (id : List ℕ) (ms : List (Member Tree)) (at : ℕ) (m : Member Tree) (fault : FlatFault) → whole ≡ left done (statements_beside besides terms id (drop at ms)) → at < length ms → m ≡ get_or ms at m → is_left_out besides m.key ≡ false → Answers (option_map (λ p. spelled (property_statement id p.0 p.1)) (property_of terms m)) (Err fault) → AnswersItems whole (Err fault)
+turn_fault besides whole done terms id ms at m NotBuilt h within is e missing =
     let none : property_of terms m ≡ None = option_map-None (λ (p : List ℕ × List ℕ). spelled (property_statement id p.0 p.1)) (property_of terms m) missing in
-    let rest : Option (List Statement) = statements_in terms id (drop (at + 1) ms) in
-    h ∙ ap (left done) (from_property terms id ms at m within is e ∙ ap (option_and_then (λ (q : List ℕ × List ℕ). option_map (λ more. property_statement id q.0 q.1 ∷ more) rest)) none)
-turn_fault whole done terms id ms at m Memory h within is e missing = tt
+    let rest : Option (List Statement) = statements_beside besides terms id (drop (at + 1) ms) in
+    h ∙ ap (left done) (from_property besides terms id ms at m within is e ∙ ap (option_and_then (λ (q : List ℕ × List ℕ). option_map (λ more. property_statement id q.0 q.1 ∷ more) rest)) none)
+turn_fault besides whole done terms id ms at m Memory h within is e missing = tt
 
 pub ruleset turns = (turn_entry, turn_property, turn_fault)

@@ -80,3 +80,47 @@ abbrev pub flat_statements : Tree → Option (List Statement)
 flat_statements r =
     option_and_then (λ two. option_and_then (λ context. option_and_then (described context) (members_of two.1)) (supplied_in two.0))
     (option_and_then two_in (members_of r))
+
+-- ---- the parts of a document of which one member is left out
+
+-- whether a member of that name gives no statement: the one that is left out, `@id` and `@context`
+abbrev pub is_left_out : List ℕ → List ℕ → Bool
+is_left_out besides key = bytes_eq key besides || is_entry key
+
+-- the text of the member of that name, where it is not the one that is left out
+abbrev pub text_beside : List ℕ → List ℕ → List (Member Tree) → Option (List ℕ)
+text_beside besides key members = if bytes_eq key besides then None else text_at key members
+
+-- the statements of the members that are not left out, in their order
+abbrev pub statements_beside : List ℕ → List (Member Tree) → List ℕ → List (Member Tree) → Option (List Statement)
+statements_beside besides terms id [] = Some []
+statements_beside besides terms id (m ∷ ms) =
+    if is_left_out besides m.key then statements_beside besides terms id ms
+    else option_and_then (λ p. option_map (λ more. property_statement id p.0 p.1 ∷ more) (statements_beside besides terms id ms)) (property_of terms m)
+
+-- the statements of members under the supplied context, where they take the context of the chosen name
+abbrev pub described_as : List ℕ → List ℕ → Supplied → List (Member Tree) → Option (List Statement)
+described_as besides chosen context members =
+    option_and_then (λ id. provided (agrees context.0 chosen id context.1) (statements_beside besides context.1 id members)) (text_beside besides at_id members)
+
+-- the statements of a tree without a member, which takes the context of the chosen name
+abbrev pub chosen_statements : List ℕ → Tree → List ℕ → Tree → Option (List Statement)
+chosen_statements besides contexts chosen t =
+    option_and_then (λ context. option_and_then (described_as besides chosen context) (members_of t)) (supplied_in contexts)
+
+-- the statements of a document without a member, which takes the context that it names itself
+abbrev pub reduced_statements : List ℕ → Tree → Tree → Option (List Statement)
+reduced_statements besides contexts document =
+    option_and_then (λ members. option_and_then (λ chosen. chosen_statements besides contexts chosen document) (text_beside besides at_context members))
+    (members_of document)
+
+-- The statements of a whole document, which takes the context that it names itself. `@context` gives no
+-- statement, so it may be the member that is left out once it was read.
+abbrev pub whole_statements : Tree → Tree → Option (List Statement)
+whole_statements contexts document =
+    option_and_then (λ members. option_and_then (λ chosen. chosen_statements at_context contexts chosen document) (text_at at_context members))
+    (members_of document)
+
+-- the statements of a request, by its two members
+abbrev pub request_statements : Tree → Option (List Statement)
+request_statements r = option_and_then (λ two. whole_statements two.0 two.1) (option_and_then two_in (members_of r))

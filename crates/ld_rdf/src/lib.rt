@@ -1,16 +1,20 @@
 //! From JSON-LD documents to RDF statements (JSON-LD 1.1 API, section 8).
 //!
-//! For now the one call is `flat`: it reads a request of one supplied context of plain terms and a
-//! document of texts under them. `specs/Flat` says which requests are flat and what they mean.
+//! For now it knows flat requests: one supplied context of plain terms and a document of texts under
+//! them. `flat` reads a whole request, `flat_document` a document without one member, and
+//! `flat_options` proof options, which take a given context. `specs/Flat` says which requests are
+//! flat and what they mean, and `specs/Reduced` which request stands for such parts.
 #![tactic(auto)]
 
 mod fault;
 mod parts;
 mod plain;
+mod reduced;
 mod statements;
 #[cfg(test)]
 mod tests;
 
 pub use base_types::{Memory, Text};
 pub use fault::FlatFault;
+pub use reduced::{flat_document, flat_options};
 pub use statements::flat;

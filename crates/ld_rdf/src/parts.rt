@@ -3,7 +3,7 @@ ghost use Rattle.std.specs.Option.{option_copied};
 ghost use Rattle.std.specs.List.{list_all};
 ghost use Rattle.json_tree.specs.Places.{members_of};
 ghost use Rattle.json_tree.specs.Trees.{is_lawful, each_next, is_before, AreLawful};
-ghost use Rattle.ld_rdf.specs.Parts.{only_of, two_in, unwrapped, supplied_in, is_definition, text_at};
+ghost use Rattle.ld_rdf.specs.Parts.{only_of, two_in, unwrapped, supplied_in, is_definition, text_at, text_beside};
 
 use crate::plain::{is_plain_iri, is_plain_term};
 use json_tree::{Member, Text, Tree, member};
@@ -71,6 +71,18 @@ pub fn text_at<'a>(key: &str, members: &'a [Member]) -> Option<&'a Text>
     ensures { option_copied result ≡ text_at key.now members.now }
 {
     member(members, key)?.as_text()
+}
+
+/// The text of the member of that name, where it is not the one that is left out.
+pub fn text_beside<'a>(besides: &str, key: &str, members: &'a [Member]) -> Option<&'a Text>
+    requires { each_next (λ m n. is_before m.key n.key) members.now ≡ true }
+    ensures { option_copied result ≡ text_beside besides.now key.now members.now }
+{
+    if key == besides {
+        None
+    } else {
+        text_at(key, members)
+    }
 }
 
 /// Whether each member is a plain term with a plain IRI.

@@ -3,11 +3,11 @@ ghost use Rattle.json_tree.specs.Trees.{is_lawful, AreLawful};
 ghost use Rattle.nquads.specs.Terms.{Statement, IsStatement};
 ghost use Rattle.nquads.specs.Spelling.{spelled};
 ghost use Rattle.ld_rdf.specs.Flat.{IsFlat, IsFlatMeaning, Means, property_statement};
-ghost use Rattle.ld_rdf.specs.Parts.{property_of, is_entry, agrees, statements_in, described, flat_statements};
+ghost use Rattle.ld_rdf.specs.Parts.{property_of, is_left_out, agrees, statements_beside, described_as, chosen_statements, reduced_statements, whole_statements, request_statements};
 ghost use Rattle.ld_rdf.specs.Answers.{Answers, AnswersItems};
 
 use crate::fault::FlatFault;
-use crate::parts::{are_definitions, supplied, text_at, two_members};
+use crate::parts::{are_definitions, supplied, text_at, text_beside, two_members};
 use crate::plain::{has_noncharacter, is_plain_iri};
 use base_types::Text;
 use json_tree::{Member, Tree};
@@ -46,28 +46,29 @@ fn property(
     })
 }
 
-/// Whether the member is `@id` or `@context`, which are no properties.
-fn is_entry(key: &str) -> bool
-    ensures { result ≡ is_entry key.now }
+/// Whether a member of that name gives no statement: the one that is left out, `@id` and `@context`.
+fn is_left_out(besides: &str, key: &str) -> bool
+    ensures { result ≡ is_left_out besides.now key.now }
 {
-    key == "@id" || key == "@context"
+    key == besides || key == "@id" || key == "@context"
 }
 
-/// The statements of the document's members, in their order.
+/// The statements of the members that are not left out, in their order.
 #[tactic(auto, using(crate::proofs::Turns::turns))]
 fn properties(
     alloc: Global,
     terms: &[Member],
     id: &Text,
     members: &[Member],
+    besides: &str,
 ) -> Result<Vec<TextQuad>, FlatFault>
     requires { AreLawful terms.now }
     ensures { AnswersItems
-        (option_map (map spelled) (statements_in terms.now id.now members.now)) result }
+        (option_map (map spelled) (statements_beside besides.now terms.now id.now members.now)) result }
 {
     let mut quads = Vec::new(alloc);
     for member in members {
-        if !is_entry(member.key.as_str()) {
+        if !is_left_out(besides, member.key.as_str()) {
             let quad = property(alloc, terms, id, member)?;
             quads.push(quad)?;
         }
@@ -82,45 +83,102 @@ fn agrees(name: &Text, chosen: &Text, id: &Text, terms: &[Member]) -> bool
     is_plain_iri(id.as_str()) && name == chosen && are_definitions(terms)
 }
 
-/// The statements of a document under the supplied context.
-fn described(
+/// The statements of members under the supplied context, where they take the context of the chosen name.
+fn described_as(
     alloc: Global,
     name: &Text,
     terms: &[Member],
+    chosen: &Text,
     members: &[Member],
+    besides: &str,
 ) -> Result<Vec<TextQuad>, FlatFault>
     requires terms { AreLawful terms.now }
     requires members { AreLawful members.now }
-    ensures { AnswersItems
-        (option_map (map spelled) (described (name.now, terms.now) members.now)) result }
+    ensures { AnswersItems (option_map (map spelled)
+        (described_as besides.now chosen.now (name.now, terms.now) members.now)) result }
 {
-    let Some(id) = text_at("@id", members) else {
-        return Err(FlatFault::NotBuilt);
-    };
-    let Some(chosen) = text_at("@context", members) else {
+    let Some(id) = text_beside(besides, "@id", members) else {
         return Err(FlatFault::NotBuilt);
     };
     if !agrees(name, chosen, id, terms) {
         return Err(FlatFault::NotBuilt);
     }
-    properties(alloc, terms, id, members)
+    properties(alloc, terms, id, members, besides)
+}
+
+/// The statements of a tree without its member `besides`, which takes the context of the chosen name.
+pub fn chosen_statements(
+    alloc: Global,
+    contexts: &Tree,
+    chosen: &Text,
+    tree: &Tree,
+    besides: &str,
+) -> Result<Vec<TextQuad>, FlatFault>
+    requires contexts { is_lawful contexts.now ≡ true }
+    requires tree { is_lawful tree.now ≡ true }
+    ensures { AnswersItems (option_map (map spelled)
+        (chosen_statements besides.now contexts.now chosen.now tree.now)) result }
+{
+    let Some((name, terms)) = supplied(contexts) else {
+        return Err(FlatFault::NotBuilt);
+    };
+    let Some(members) = tree.as_object() else {
+        return Err(FlatFault::NotBuilt);
+    };
+    described_as(alloc, name, terms, chosen, members, besides)
+}
+
+/// The statements of a document without its member `besides`, which takes the context that it names.
+pub fn reduced_statements(
+    alloc: Global,
+    contexts: &Tree,
+    document: &Tree,
+    besides: &str,
+) -> Result<Vec<TextQuad>, FlatFault>
+    requires contexts { is_lawful contexts.now ≡ true }
+    requires document { is_lawful document.now ≡ true }
+    ensures { AnswersItems (option_map (map spelled)
+        (reduced_statements besides.now contexts.now document.now)) result }
+{
+    let Some(members) = document.as_object() else {
+        return Err(FlatFault::NotBuilt);
+    };
+    let Some(chosen) = text_beside(besides, "@context", members) else {
+        return Err(FlatFault::NotBuilt);
+    };
+    chosen_statements(alloc, contexts, chosen, document, besides)
+}
+
+/// The statements of a whole document, which takes the context that it names.
+fn whole_statements(
+    alloc: Global,
+    contexts: &Tree,
+    document: &Tree,
+) -> Result<Vec<TextQuad>, FlatFault>
+    requires contexts { is_lawful contexts.now ≡ true }
+    requires document { is_lawful document.now ≡ true }
+    ensures { AnswersItems (option_map (map spelled)
+        (whole_statements contexts.now document.now)) result }
+{
+    let Some(members) = document.as_object() else {
+        return Err(FlatFault::NotBuilt);
+    };
+    let Some(chosen) = text_at("@context", members) else {
+        return Err(FlatFault::NotBuilt);
+    };
+    // It gives no statement in any case, so no member is left out that has one.
+    chosen_statements(alloc, contexts, chosen, document, "@context")
 }
 
 /// The statements of a flat request.
-fn flat_statements(alloc: Global, request: &Tree) -> Result<Vec<TextQuad>, FlatFault>
+fn request_statements(alloc: Global, request: &Tree) -> Result<Vec<TextQuad>, FlatFault>
     requires { is_lawful request.now ≡ true }
-    ensures { AnswersItems (option_map (map spelled) (flat_statements request.now)) result }
+    ensures { AnswersItems (option_map (map spelled) (request_statements request.now)) result }
 {
     let Some((contexts, document)) = two_members(request) else {
         return Err(FlatFault::NotBuilt);
     };
-    let Some((name, terms)) = supplied(contexts) else {
-        return Err(FlatFault::NotBuilt);
-    };
-    let Some(members) = document.as_object() else {
-        return Err(FlatFault::NotBuilt);
-    };
-    described(alloc, name, terms, members)
+    whole_statements(alloc, contexts, document)
 }
 
 /// The statements of a flat request: one for each member of the document beside `@id` and `@context`,
@@ -137,7 +195,7 @@ pub fn flat(alloc: Global, request: &Tree) -> Result<TextQuads, FlatFault>
     ensures statements { IfOk result (λ _. (s : Statement) → Means request.now s → IsStatement s) }
     ensures not_built { IsErrOf result FlatFault.NotBuilt → IsFlat request.now → ⊥ }
 {
-    match flat_statements(alloc, request) {
+    match request_statements(alloc, request) {
         Ok(quads) => Ok(TextQuads::from_vec(quads)),
         Err(fault) => Err(fault),
     }

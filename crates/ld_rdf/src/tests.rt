@@ -1,6 +1,8 @@
 //! Requests and the statements that their documents mean, by hand from JSON-LD 1.1.
-use crate::{FlatFault, flat};
-use json_tree::read;
+use crate::{FlatFault, Text, flat, flat_document, flat_options};
+use json_tree::{TreeFault, read};
+use nquads::TextQuads;
+use std::alloc::Global;
 use std::test::Fail;
 
 /// A flat request whose document has one property.
@@ -64,6 +66,168 @@ fn a_request_that_is_not_flat_is_not_built(rt: HostRuntime) -> Result<(), Fail> 
     for bytes in NOT_FLAT {
         let tree = read(rt.alloc(), bytes)?;
         assert_eq!(rt; flat(rt.alloc(), &tree).err(), Some(FlatFault::NotBuilt));
+    }
+    Ok(())
+}
+
+/// One supplied context, of one term.
+const CONTEXTS: &[u8] = br#"{"c":{"@context":{"name":"https://schema.org/name"}}}"#;
+
+/// Documents, the member that is left out, and how many statements there are, if it is built.
+const DOCUMENTS: [(&[u8], &str, Option<usize>); 10] = [
+    (
+        br#"{"@context":"c","@id":"https://ex.org/a","name":"Ann","proof":{"type":"x"}}"#,
+        "proof",
+        Some(1),
+    ),
+    (
+        br#"{"@context":"c","@id":"https://ex.org/a","name":"Ann","proof":{"type":"x"}}"#,
+        "",
+        None,
+    ),
+    (
+        br#"{"@context":"c","@id":"https://ex.org/a","name":"Ann"}"#,
+        "",
+        Some(1),
+    ),
+    (
+        br#"{"@context":"c","@id":"https://ex.org/a","name":"Ann"}"#,
+        "name",
+        Some(0),
+    ),
+    (
+        br#"{"@context":"c","@id":"https://ex.org/a","name":"Ann"}"#,
+        "@context",
+        None,
+    ),
+    (
+        br#"{"@context":"c","@id":"https://ex.org/a","name":"Ann"}"#,
+        "@id",
+        None,
+    ),
+    (
+        br#"{"@context":"c","@id":"https://ex.org/a","age":"3","proof":1}"#,
+        "proof",
+        None,
+    ),
+    (
+        br#"{"@context":"d","@id":"https://ex.org/a","proof":1}"#,
+        "proof",
+        None,
+    ),
+    (
+        br#"{"@context":"c","@id":"https://ex.org/a","":"x","proof":1}"#,
+        "proof",
+        None,
+    ),
+    (b"[]", "proof", None),
+];
+
+/// Options, the name of the context that they take, the member that is left out, and how many
+/// statements there are, if they are built.
+const OPTIONS: [(&[u8], &str, &str, Option<usize>); 10] = [
+    (
+        br#"{"@id":"https://ex.org/a","name":"Ann","proofValue":"u"}"#,
+        "c",
+        "proofValue",
+        Some(1),
+    ),
+    (
+        br#"{"@context":"d","@id":"https://ex.org/a","name":"Ann","proofValue":"u"}"#,
+        "c",
+        "proofValue",
+        Some(1),
+    ),
+    (
+        br#"{"@context":{},"@id":"https://ex.org/a","name":"Ann"}"#,
+        "c",
+        "",
+        Some(1),
+    ),
+    (
+        br#"{"@context":"c","@id":"https://ex.org/a","name":"Ann"}"#,
+        "c",
+        "@context",
+        Some(1),
+    ),
+    (
+        br#"{"@context":"c","@id":"https://ex.org/a","name":"Ann"}"#,
+        "d",
+        "",
+        None,
+    ),
+    (
+        br#"{"@id":"https://ex.org/a","name":"Ann","proofValue":"u"}"#,
+        "c",
+        "",
+        None,
+    ),
+    (
+        br#"{"@id":"https://ex.org/a","age":"3","proofValue":"u"}"#,
+        "c",
+        "proofValue",
+        None,
+    ),
+    (
+        br#"{"@id":"https://ex.org/a","name":"Ann"}"#,
+        "c",
+        "name",
+        Some(0),
+    ),
+    (br#"{"name":"Ann"}"#, "c", "", None),
+    (b"3", "c", "", None),
+];
+
+/// Whether the answer has this many statements, or is `NotBuilt` where none are expected.
+fn is_expected(answer: Result<TextQuads, FlatFault>, expected: Option<usize>) -> bool {
+    match answer {
+        Ok(quads) => expected == Some(quads.len()),
+        Err(fault) => fault == FlatFault::NotBuilt && expected.is_none(),
+    }
+}
+
+fn document_is(
+    alloc: Global,
+    bytes: &[u8],
+    besides: &str,
+    expected: Option<usize>,
+) -> Result<bool, TreeFault> {
+    let contexts = read(alloc, CONTEXTS)?;
+    let document = read(alloc, bytes)?;
+    Ok(is_expected(
+        flat_document(alloc, &contexts, &document, besides),
+        expected,
+    ))
+}
+
+fn options_are(
+    alloc: Global,
+    bytes: &[u8],
+    name: &str,
+    besides: &str,
+    expected: Option<usize>,
+) -> Result<bool, TreeFault> {
+    let contexts = read(alloc, CONTEXTS)?;
+    let context = Text::from_str(alloc, name)?;
+    let options = read(alloc, bytes)?;
+    Ok(is_expected(
+        flat_options(alloc, &contexts, &context, &options, besides),
+        expected,
+    ))
+}
+
+#[test]
+fn a_document_is_read_without_a_member(rt: HostRuntime) -> Result<(), Fail> {
+    for (bytes, besides, expected) in DOCUMENTS {
+        assert!(rt; document_is(rt.alloc(), bytes, besides, expected)?);
+    }
+    Ok(())
+}
+
+#[test]
+fn options_take_the_given_context(rt: HostRuntime) -> Result<(), Fail> {
+    for (bytes, name, besides, expected) in OPTIONS {
+        assert!(rt; options_are(rt.alloc(), bytes, name, besides, expected)?);
     }
     Ok(())
 }
