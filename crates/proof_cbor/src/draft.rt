@@ -1,10 +1,10 @@
 ghost use Rattle.std.specs.Prelude.{◌≡◌, ◌≤◌, ◌+◌, ◌++◌, length, take, drop, string_bytes, IfOk};
 ghost use Rattle.std.specs.Str.{IsUtf8};
 ghost use Rattle.base64.specs.Engines.{url_safe_no_pad};
-ghost use Rattle.base64.specs.GeneralPurpose.{encoded_size_of};
+ghost use Rattle.base64.specs.GeneralPurpose.{IsBytes, encoded_size_of};
 ghost use Rattle.cbor_core.specs.Writing.{count_of};
 ghost use Rattle.proof_cbor.specs.declared.value.BaseValue.{BaseValue};
-ghost use Rattle.proof_cbor.specs.Values.{text_of, base_item, base_bytes, signed, IsDraft};
+ghost use Rattle.proof_cbor.specs.Values.{text_of, base_item, base_bytes, signed, CanWriteBase, IsDraft, SpellsBase};
 
 use crate::encoding::{bytes_of_base, text_in};
 use crate::value::BaseValue;
@@ -71,7 +71,8 @@ fn with_signature(bytes: Vec<u8>, signature: &[u8; 64]) -> Vec<u8>
 #[tactic(auto, using(crate::proofs::Drafts::draft_steps))]
 fn text_over(bytes: &[u8], buffer: Vec<u8>) -> Text
     requires { length buffer.items ≡ 1 + encoded_size_of url_safe_no_pad (length bytes.now) }
-    ensures { result ≡ text_of bytes.now }
+    ensures text { result ≡ text_of bytes.now }
+    ensures proper { IsBytes bytes.now }
 {
     let mut buffer = buffer;
     write_text(bytes, &mut buffer);
@@ -86,7 +87,8 @@ fn text_over(bytes: &[u8], buffer: Vec<u8>) -> Text
 #[tactic(auto, using(crate::proofs::Drafts::draft_steps))]
 pub fn draft_base(alloc: Global, value: &BaseValue) -> Result<BaseDraft, Memory>
     requires { count_of (base_item value.now) ≤ 100000 }
-    ensures { IfOk result (λ draft. IsDraft value.now draft) }
+    ensures draft { IfOk result (λ draft. IsDraft value.now draft) }
+    ensures can_write { IfOk result (λ _. CanWriteBase value.now) }
 {
     let bytes = bytes_of_base(alloc, value)?;
     let text = text_in(alloc, &bytes)?.into_string().into_bytes();
@@ -97,7 +99,11 @@ impl BaseDraft {
     /// The text of the value with this signature in place of its own. It takes no memory.
     #[tactic(auto, using(crate::proofs::Drafts::draft_steps))]
     pub fn finish(self, signature: &[u8; 64]) -> Text
-        ensures { (value : BaseValue) → IsDraft value self → result ≡ text_of (base_bytes (signed value signature.now)) }
+        ensures text { (value : BaseValue) → IsDraft value self → result ≡ text_of (base_bytes (signed value signature.now)) }
+        // It spells that value, where this can be written.
+        ensures spelled { (value : BaseValue) → IsDraft value self → CanWriteBase (signed value signature.now)
+            → count_of (base_item (signed value signature.now)) ≤ 100000 → SpellsBase (signed value signature.now) result }
+        ensures long { length signature.now ≡ 64 }
     {
         let BaseDraft { bytes, text } = self;
         let bytes = with_signature(bytes, signature);
