@@ -1,5 +1,5 @@
 -- What the answers of `run` stand on.
-use Rattle.std.proofs.Common.{◌≡◌, ◌<◌, ◌≤◌, ◌∙◌, ℕ, List, [], ◌∷◌, length, get_or, map, Option, Bool, IsTrue, arith, sym, ap, subst, All, Contains}
+use Rattle.std.proofs.Common.{◌≡◌, ◌<◌, ◌≤◌, ◌∙◌, ℕ, List, [], ◌∷◌, length, get_or, map, Bool, IsTrue, arith, sym, ap, subst, All, Contains}
 use Rattle.std.specs.Str.{bytes_eq}
 use Rattle.std.proofs.lemmas.Slice.Eq.{bytes_eq-Decides}
 use Rattle.std.proofs.lemmas.List.Elements.{All-map, Contains-get_or}
@@ -12,9 +12,7 @@ use Rattle.nquads.specs.Texts.{Names, label_in}
 use Rattle.nquads.specs.declared.labels.TextLabel.{TextLabel}
 use Rattle.nquads.specs.declared.quads.TextQuad.{TextQuad}
 use Rattle.ld_rdf.specs.Flat.{Means, property_statement}
-use Rattle.vc_cli.specs.declared.reply.Reply.{Reply}
-use Rattle.vc_cli.specs.declared.reply.Reply.TheVariants as reply
-use Rattle.vc_cli.specs.Answers.{IsInput, AnswersBytes, AnswersRequest, no_label}
+use Rattle.vc_cli.specs.Issuing.{no_label}
 
 -- a list of one element
 pub one_element : (xs : List (List ℕ)) (x : List ℕ) → 1 ≤ length xs → length xs < 2 → x ≡ get_or xs 0 x → xs ≡ x ∷ []
@@ -30,18 +28,6 @@ is_one_word words word seen text r some few is same said =
       (λ t. let equal : seen ≡ text = decides.0 (sym said ∙ t) in cc),
       (λ e. let equal : seen ≡ text = cc in said ∙ decides.1 equal),
     )
-
--- the reply to bytes that were read whole is the reply to the request
-pub answers_read : (left : Option (List ℕ)) (before after : ℕ) (bytes : List ℕ) (r : Reply) → IsInput left bytes → AnswersBytes bytes r → AnswersRequest left before after r
-answers_read left before after bytes (reply.Statements text) input a = (bytes, input, a)
-answers_read left before after bytes reply.Usage input a = a
-answers_read left before after bytes reply.TooLong input a = absurd a
-answers_read left before after bytes reply.NotJson input a = (bytes, input, a)
-answers_read left before after bytes reply.TreeTooDeep input a = (bytes, input, a)
-answers_read left before after bytes (reply.NotWhole line) input a = (bytes, input, a)
-answers_read left before after bytes reply.NotBuilt input a = (bytes, input, a)
-answers_read left before after bytes reply.ReadFault input a = absurd a
-answers_read left before after bytes reply.Memory input a = tt
 
 -- a statement of the flat meaning has no blank node, so no labels name them all
 pub property_named : (id mapping text : List ℕ) → Names [] (spelled (property_statement id mapping text))

@@ -1,1 +1,13 @@
 pub mod Facts
+pub mod Looks
+pub mod Putting
+pub mod Tables
+pub mod Parting
+pub mod Printing
+pub mod Flatness
+pub mod Drafting
+pub mod LineFacts
+pub mod VerifyFacts
+pub mod ReplyFacts
+pub mod RunFacts
+pub mod IssueFacts

@@ -1,2 +1,10 @@
 pub mod Replies
+pub mod Requests
+pub mod Written
+pub mod Issuing
+pub mod Verifying
 pub mod Answers
+pub mod Tasks
+pub mod Parts
+pub mod Drafts
+pub mod Stages

@@ -6,9 +6,9 @@ use Rattle.vc_cli.specs.declared.reply.Reply.TheVariants as reply
 use Rattle.vc_cli.specs.declared.status.Status.{Status}
 use Rattle.vc_cli.specs.declared.status.Status.TheVariants as status
 
--- the line `usage: vc_cli statements`, with LF
+-- the line `usage: vc_cli statements|issue|verify`, with LF
 abbrev pub usage_line : List ℕ
-usage_line = codes "usage: vc_cli statements" ++ 10 ∷ []
+usage_line = codes "usage: vc_cli statements|issue|verify" ++ 10 ∷ []
 
 -- a text in quotes; of a text that needs no escape
 abbrev pub quoted : List ℕ → List ℕ
@@ -44,6 +44,14 @@ bytes_of reply.TreeTooDeep = refused (limited (codes "100") ++ (44 ∷ named (co
 bytes_of (reply.NotWhole line) = line
 bytes_of reply.NotBuilt = refused (named (codes "NotBuilt"))
 bytes_of reply.ReadFault = refused (named (codes "ReadFault"))
+bytes_of reply.NoStatements = refused (named (codes "NoStatements"))
+bytes_of (reply.UnknownMethod line) = line
+bytes_of (reply.NoKey line) = line
+bytes_of (reply.ProofValue line) = line
+bytes_of (reply.Issued line) = line
+bytes_of (reply.Verified line) = line
+bytes_of (reply.Rejected line) = line
+bytes_of reply.DeviceFault = refused (named (codes "DeviceFault"))
 bytes_of reply.Memory = refused (named (codes "Memory"))
 
 -- the status of a reply that was written whole
@@ -56,4 +64,12 @@ status_of reply.TreeTooDeep = status.Input
 status_of (reply.NotWhole line) = status.Input
 status_of reply.NotBuilt = status.Input
 status_of reply.ReadFault = status.ReadFault
+status_of reply.NoStatements = status.Input
+status_of (reply.UnknownMethod line) = status.Input
+status_of (reply.NoKey line) = status.Input
+status_of (reply.ProofValue line) = status.Input
+status_of (reply.Issued line) = status.Done
+status_of (reply.Verified line) = status.Done
+status_of (reply.Rejected line) = status.No
+status_of reply.DeviceFault = status.DeviceFault
 status_of reply.Memory = status.Memory

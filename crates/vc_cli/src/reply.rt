@@ -21,6 +21,23 @@ pub enum Reply {
     NotWhole(Sequence<u8>),
     /// The request is none that this program answers.
     NotBuilt,
+    /// The document of the request has no statement.
+    NoStatements,
+    /// The key table has no key for the proof's verification method. These, as those below, are the bytes
+    /// of the line.
+    UnknownMethod(Sequence<u8>),
+    /// The device does not own the issuer's key.
+    NoKey(Sequence<u8>),
+    /// The proof value is none, and why.
+    ProofValue(Sequence<u8>),
+    /// The document with a base proof.
+    Issued(Sequence<u8>),
+    /// The document verifies.
+    Verified(Sequence<u8>),
+    /// The document does not verify, and why.
+    Rejected(Sequence<u8>),
+    /// The key device failed.
+    DeviceFault,
     /// The source failed.
     ReadFault,
     /// Want of memory.
@@ -34,12 +51,17 @@ impl Reply {
     {
         match self {
             Reply::Statements(text) => text.as_slice(),
-            Reply::Usage => b"usage: vc_cli statements\n",
+            Reply::Usage => b"usage: vc_cli statements|issue|verify\n",
             Reply::TooLong => b"{\"refused\":{\"limit\":8388608,\"name\":\"TooLong\"}}\n",
             Reply::NotJson => b"{\"refused\":{\"name\":\"NotJson\"}}\n",
             Reply::TreeTooDeep => b"{\"refused\":{\"limit\":100,\"name\":\"TreeTooDeep\"}}\n",
             Reply::NotWhole(line) => line.as_slice(),
             Reply::NotBuilt => b"{\"refused\":{\"name\":\"NotBuilt\"}}\n",
+            Reply::NoStatements => b"{\"refused\":{\"name\":\"NoStatements\"}}\n",
+            Reply::UnknownMethod(line) | Reply::NoKey(line) => line.as_slice(),
+            Reply::ProofValue(line) | Reply::Issued(line) => line.as_slice(),
+            Reply::Verified(line) | Reply::Rejected(line) => line.as_slice(),
+            Reply::DeviceFault => b"{\"refused\":{\"name\":\"DeviceFault\"}}\n",
             Reply::ReadFault => b"{\"refused\":{\"name\":\"ReadFault\"}}\n",
             Reply::Memory => b"{\"refused\":{\"name\":\"Memory\"}}\n",
         }
@@ -50,10 +72,13 @@ impl Reply {
         ensures { result ≡ status_of self.now }
     {
         match self {
-            Reply::Statements(_) => Status::Done,
+            Reply::Statements(_) | Reply::Issued(_) | Reply::Verified(_) => Status::Done,
+            Reply::Rejected(_) => Status::No,
             Reply::Usage => Status::Usage,
             Reply::TooLong | Reply::NotJson | Reply::TreeTooDeep => Status::Input,
-            Reply::NotWhole(_) | Reply::NotBuilt => Status::Input,
+            Reply::NotWhole(_) | Reply::NotBuilt | Reply::NoStatements => Status::Input,
+            Reply::UnknownMethod(_) | Reply::NoKey(_) | Reply::ProofValue(_) => Status::Input,
+            Reply::DeviceFault => Status::DeviceFault,
             Reply::ReadFault => Status::ReadFault,
             Reply::Memory => Status::Memory,
         }

@@ -1,110 +1,94 @@
-ghost use Rattle.std.specs.Prelude.{◌≡◌, ◌↔◌, ℕ, List, IsTrue, IfOk, Ok, Err};
-ghost use Rattle.json_tree.specs.declared.tree.TreeFault.TheVariants as fault;
-ghost use Rattle.json_tree.specs.Places.{pointer_of};
-ghost use Rattle.json_tree.specs.Reads.{Reads};
-ghost use Rattle.vc_cli.specs.Replies.{not_whole_line};
+ghost use Rattle.std.specs.Prelude.{◌≡◌, ◌↔◌, [], ◌∷◌, IsTrue};
+ghost use Rattle.key_device.specs.Devices.{AcceptsSame, OwnsSame};
 ghost use Rattle.vc_cli.specs.declared.reply.Reply.{Reply as AnyReply};
-ghost use Rattle.vc_cli.specs.Answers.{Answers, AnswersRequest, AnswersBytes, Delivers, IsStatements};
+ghost use Rattle.vc_cli.specs.Answers.{Answers, Delivers, HasSoundYes, IsCommand, IsIssueCommand, IsVerifyCommand, Signs};
+ghost use Rattle.vc_cli.specs.Issuing.{meaning};
+ghost use Rattle.vc_cli.specs.Stages.{HasSoundReply};
 
+use crate::commands;
 use crate::reply::Reply;
 use crate::status::Status;
-use json_tree::{Place, Text, Tree, TreeFault};
-use ld_rdf::FlatFault;
-use nquads::{Memory, Sequence, TextLabels};
+use key_device::KeyDevice;
+use nquads::Text;
 use std::alloc::Global;
-use vc_io::{ReadAllFault, Sink, Source};
+use vc_io::{Sink, Source};
 
-/// The most bytes that are read.
-const INPUT_LIMIT: u64 = 8_388_608;
-
-/// Answers the command that the words name, from `source` to `sink`.
+/// Answers the command that the words name, from `source` to `sink`, with a key device.
 ///
-/// `words` are without the program's name. The one command is `statements`: it reads a request to its
-/// end and writes the statements of its document as canonical N-Quads. A refusal is one line of JSON.
-pub fn run<S: Source, K: Sink>(
+/// `words` are without the program's name. The commands are `statements`, `issue` and `verify`. Each reads
+/// a request to its end: the first writes the statements of its document as canonical N-Quads, the second
+/// secures the document with a base proof in which every statement is mandatory, and the third checks a
+/// derived proof of such a document. A refusal is one line of JSON.
+#[tactic(auto, using(crate::proofs::RunFacts::word_steps))]
+pub fn run<S: Source, K: Sink, D: KeyDevice>(
     alloc: Global,
     words: &[Text],
     source: &mut S,
     sink: &mut K,
+    device: &mut D,
 ) -> Status
-    // One reply answers the words and the input, and it was delivered.
+    // One reply answers the words and the input, it was delivered, and nothing is signed but what it says.
     ensures answer { (reply : AnyReply)
-        × Answers words.now (S.left source.old) (S.faults source.old) (S.faults source.new) reply
-        × Delivers reply result (K.written sink.old) (K.written sink.new) (K.faults sink.old) (K.faults sink.new) }
+        × Answers words.now (S.left source.old) (S.faults source.old) (S.faults source.new)
+        (meaning (D.accepts device.old) (D.owns device.old) (D.signed device.old) (D.next_secret device.old) (D.faults device.old) (D.exact device.old))
+        (meaning (D.accepts device.new) (D.owns device.new) (D.signed device.new) (D.next_secret device.new) (D.faults device.new) (D.exact device.new)) reply
+        × Delivers reply result (K.written sink.old) (K.written sink.new) (K.faults sink.old) (K.faults sink.new)
+        × Signs (S.left source.old)
+        (meaning (D.accepts device.old) (D.owns device.old) (D.signed device.old) (D.next_secret device.old) (D.faults device.old) (D.exact device.old))
+        (meaning (D.accepts device.new) (D.owns device.new) (D.signed device.new) (D.next_secret device.new) (D.faults device.new) (D.exact device.new)) reply }
     // Under other words nothing is read.
-    ensures unread { (IsStatements words.now → ⊥) → source.new ≡ source.old }
+    ensures unread { (IsCommand words.now → ⊥) → source.new ≡ source.old }
+    // Only issuing and verifying use the device, and verifying changes nothing that the device means.
+    ensures unused { (IsIssueCommand words.now → ⊥) → (IsVerifyCommand words.now → ⊥) → device.new ≡ device.old }
+    ensures only_checks { IsVerifyCommand words.now → AcceptsSame (D.accepts device.old) (D.accepts device.new)
+        × OwnsSame (D.owns device.old) (D.owns device.new) × (D.signed device.new ≡ D.signed device.old) }
+    // A yes names one record of every history that covers it, which holds of the document and its options.
+    ensures sound { IsVerifyCommand words.now → result ≡ Status.Done → HasSoundYes (S.left source.old) (D.accepts device.old) }
 {
-    let reply = if is_statements(words) {
-        statements(alloc, source)
-    } else {
-        Reply::Usage
-    };
+    let reply = reply_to(alloc, words, source, device);
     deliver(&reply, sink)
 }
 
-fn is_statements(words: &[Text]) -> bool
-    ensures { IsTrue result ↔ IsStatements words.now }
+/// The reply to a command.
+#[tactic(auto, using(crate::proofs::RunFacts::word_steps))]
+fn reply_to<S: Source, D: KeyDevice>(
+    alloc: Global,
+    words: &[Text],
+    source: &mut S,
+    device: &mut D,
+) -> Reply
+    ensures answer { Answers words.now (S.left source.old) (S.faults source.old) (S.faults source.new)
+        (meaning (D.accepts device.old) (D.owns device.old) (D.signed device.old) (D.next_secret device.old) (D.faults device.old) (D.exact device.old))
+        (meaning (D.accepts device.new) (D.owns device.new) (D.signed device.new) (D.next_secret device.new) (D.faults device.new) (D.exact device.new)) result }
+    ensures signs { Signs (S.left source.old)
+        (meaning (D.accepts device.old) (D.owns device.old) (D.signed device.old) (D.next_secret device.old) (D.faults device.old) (D.exact device.old))
+        (meaning (D.accepts device.new) (D.owns device.new) (D.signed device.new) (D.next_secret device.new) (D.faults device.new) (D.exact device.new)) result }
+    ensures unread { (IsCommand words.now → ⊥) → source.new ≡ source.old }
+    ensures unused { (IsIssueCommand words.now → ⊥) → (IsVerifyCommand words.now → ⊥) → device.new ≡ device.old }
+    ensures only_checks { IsVerifyCommand words.now → AcceptsSame (D.accepts device.old) (D.accepts device.new)
+        × OwnsSame (D.owns device.old) (D.owns device.new) × (D.signed device.new ≡ D.signed device.old) }
+    ensures sound { IsVerifyCommand words.now → HasSoundReply (S.left source.old) (D.accepts device.old) result }
+{
+    if is_word(words, "statements") {
+        return commands::statements(alloc, source);
+    }
+    if is_word(words, "issue") {
+        return commands::issue(alloc, source, device);
+    }
+    if is_word(words, "verify") {
+        return commands::verify(alloc, source, device);
+    }
+    Reply::Usage
+}
+
+/// Whether the words are this one.
+fn is_word(words: &[Text], text: &str) -> bool
+    ensures { IsTrue result ↔ (words.now ≡ text.now ∷ []) }
 {
     match words {
-        [word] => word.as_str() == "statements",
+        [word] => word.as_str() == text,
         _ => false,
     }
-}
-
-/// The reply to the command `statements`.
-fn statements<S: Source>(alloc: Global, source: &mut S) -> Reply
-    ensures { AnswersRequest (S.left source.old) (S.faults source.old) (S.faults source.new) result }
-{
-    match vc_io::read_all(alloc, source, INPUT_LIMIT) {
-        Ok(bytes) => statements_of(alloc, bytes.as_slice()),
-        Err(ReadAllFault::TooLong(_)) => Reply::TooLong,
-        Err(ReadAllFault::Failed) => Reply::ReadFault,
-        Err(ReadAllFault::Memory) => Reply::Memory,
-    }
-}
-
-/// The reply to a request that was read whole.
-fn statements_of(alloc: Global, bytes: &[u8]) -> Reply
-    ensures { AnswersBytes bytes.now result }
-{
-    let request = match json_tree::read(alloc, bytes) {
-        Ok(request) => request,
-        Err(TreeFault::NotJson) => return Reply::NotJson,
-        Err(TreeFault::TooDeep) => return Reply::TreeTooDeep,
-        Err(TreeFault::NotWhole(place)) => return not_whole(alloc, &place),
-        Err(TreeFault::Memory) => return Reply::Memory,
-    };
-    let quads = match ld_rdf::flat(alloc, &request) {
-        Ok(quads) => quads,
-        Err(FlatFault::NotBuilt) => return Reply::NotBuilt,
-        Err(FlatFault::Memory) => return Reply::Memory,
-    };
-    match nquads::text_of(alloc, &quads, &TextLabels::new(alloc)) {
-        Ok(text) => Reply::Statements(Sequence::from_vec(text)),
-        Err(Memory) => Reply::Memory,
-    }
-}
-
-/// The refusal of a number that is not whole.
-fn not_whole(alloc: Global, place: &Place) -> Reply
-    ensures { (bytes : List ℕ) → Reads bytes (Err (fault.NotWhole place.now)) → AnswersBytes bytes result }
-{
-    match not_whole_line(alloc, place) {
-        Ok(line) => Reply::NotWhole(Sequence::from_vec(line)),
-        Err(Memory) => Reply::Memory,
-    }
-}
-
-/// The bytes of that refusal: the place is written as its JSON Pointer.
-fn not_whole_line(alloc: Global, place: &Place) -> Result<Vec<u8>, Memory>
-    ensures { IfOk result (λ line. line.items ≡ not_whole_line (pointer_of place.now.steps)) }
-{
-    let pointer = Tree::Text(json_tree::pointer_text(alloc, place)?);
-    let text = json_tree::print(alloc, &pointer)?;
-    let mut line = Vec::from_slice(alloc, b"{\"refused\":{\"name\":\"NotWhole\",\"place\":")?;
-    line.extend_from_slice(text.as_slice())?;
-    line.extend_from_slice(b"}}\n")?;
-    Ok(line)
 }
 
 /// Writes a reply, and says how the run ended. It takes no memory.

@@ -1,5 +1,6 @@
 use crate::run::run;
 use crate::status::Status;
+use key_device::{KeyDevice, KeyName, LedgerDevice};
 use nquads::{Memory, Text};
 use std::alloc::Global;
 use std::test::Fail;
@@ -49,7 +50,7 @@ const ROOT_PLACE: &str = "{\"refused\":{\"name\":\"NotWhole\",\"place\":\"\"}}\n
 
 const TREE_TOO_DEEP: &str = "{\"refused\":{\"limit\":100,\"name\":\"TreeTooDeep\"}}\n";
 
-const USAGE: &str = "usage: vc_cli statements\n";
+const USAGE: &str = "usage: vc_cli statements|issue|verify\n";
 
 const NOT_BUILT: &str = "{\"refused\":{\"name\":\"NotBuilt\"}}\n";
 
@@ -61,24 +62,36 @@ const READ_FAULT: &str = "{\"refused\":{\"name\":\"ReadFault\"}}\n";
 
 /// The calls of the source and of the sink that fail, and the most that the sink takes at once.
 #[derive(Drop)]
-struct Faults<'a> {
+pub struct Faults<'a> {
     reads: &'a [u64],
     piece: u64,
     writes: &'a [u64],
 }
 
-const NONE: Faults<'static> = Faults {
+pub const NONE: Faults<'static> = Faults {
     reads: &[],
     piece: 1_048_576,
     writes: &[],
 };
 
-/// How a run over memory ends, and what it wrote.
+/// How a run over memory ends, and what it wrote, with a device that owns the key of 35 zero bytes.
 fn outcome(
     alloc: Global,
     words: &[&str],
     input: Vec<u8>,
     faults: &Faults<'_>,
+) -> Result<(Status, Vec<u8>), Memory> {
+    let mut device = LedgerDevice::new(alloc, &[KeyName { bytes: [0; 35] }])?;
+    outcome_over(alloc, words, input, faults, &mut device)
+}
+
+/// The same with any device.
+pub fn outcome_over<D: KeyDevice>(
+    alloc: Global,
+    words: &[&str],
+    input: Vec<u8>,
+    faults: &Faults<'_>,
+    device: &mut D,
 ) -> Result<(Status, Vec<u8>), Memory> {
     let mut given = Vec::new(alloc);
     for word in words {
@@ -88,7 +101,7 @@ fn outcome(
     let writes = Vec::from_slice(alloc, faults.writes)?;
     let mut source = MemorySource::new(input, 4_096, reads);
     let mut sink = MemorySink::new(alloc, 1_048_576, faults.piece, writes)?;
-    let status = run(alloc, given.as_slice(), &mut source, &mut sink);
+    let status = run(alloc, given.as_slice(), &mut source, &mut sink, device);
     Ok((status, sink.into_written()))
 }
 

@@ -1,0 +1,15 @@
+use Rattle.std.proofs.Common.{◌∙◌}
+use Rattle.vc_cli.proofs.Facts.{flat_named_by, text_without, same_from}
+use Rattle.vc_cli.proofs.commands.statements_of.Goals as goal
+
+pub text_of-requires : goal.text_of-requires
+text_of-requires c =
+    let flat = c.in-Ok.ensures.ok.1 in
+    flat_named_by c.args.request.now _ _ flat.0 c.new.ensures flat.2 flat.1.exact
+
+pub returns-in-Ok-text_of : goal.returns-in-Ok-text_of
+returns-in-Ok-text_of c =
+    let flat = c.in-Ok.ensures.ok.1 in (
+      c.in-Ok.ensures.ok.0,
+      record { meaning = flat.0; means = flat.1; is = c.from_vec.ensures ∙ text_without _ flat.0 _ c.new.ensures (c.in-Ok-text_of.ensures flat.0 (same_from _ _ flat.2)) },
+    )

@@ -1,0 +1,125 @@
+-- The replies that are written as one line of JSON, with LF: a tree for each, its members in byte order.
+use Rattle.std.specs.Prelude.{◌+◌, ℕ, pos, List, [], ◌∷◌, ◌++◌, true, false, codes}
+use Rattle.hex.specs.Hex.{encode_lower}
+use Rattle.serde_json.specs.Written.{compact_text}
+use Rattle.json_tree.specs.declared.tree.Tree.{Tree}
+use Rattle.json_tree.specs.declared.tree.Tree.TheVariants as v
+use Rattle.json_tree.specs.declared.tree.Item.{Item}
+use Rattle.json_tree.specs.declared.tree.Member.{Member}
+use Rattle.json_tree.specs.Trees.{element, entry}
+use Rattle.json_tree.specs.Prints.{data_of}
+use Rattle.key_device.specs.declared.keys.KeyName.{KeyName}
+use Rattle.cbor_core.specs.declared.fault.CborFault.{CborFault}
+use Rattle.cbor_core.specs.declared.fault.CborFault.TheVariants as cbor
+use Rattle.proof_cbor.specs.declared.fault.Part.{Part}
+use Rattle.proof_cbor.specs.declared.fault.Part.TheVariants as part
+use Rattle.proof_cbor.specs.declared.fault.ValueFault.{ValueFault}
+use Rattle.proof_cbor.specs.declared.fault.ValueFault.TheVariants as value
+use Rattle.stmt_groups.specs.declared.types.Cause.{Cause}
+use Rattle.stmt_groups.specs.declared.types.Cause.TheVariants as cause
+
+-- a tree as compact JSON, and LF
+abbrev pub line_of : Tree → List ℕ
+line_of t = compact_text (data_of t) ++ 10 ∷ []
+
+-- a member whose value is a text, a whole number or an object
+abbrev pub text_field : List ℕ → List ℕ → Member Tree
+text_field name text = entry name (v.Text text)
+
+abbrev pub number_field : List ℕ → ℕ → Member Tree
+number_field name n = entry name (v.Whole (pos n))
+
+-- the member `name` of a refusal or of a cause
+abbrev pub named : List ℕ → Member Tree
+named name = text_field (codes "name") name
+
+-- a list of whole numbers
+abbrev pub whole_items : ℕ → List ℕ → List (Item Tree)
+whole_items from [] = []
+whole_items from (n ∷ ns) = element from (v.Whole (pos n)) ∷ whole_items (from + 1) ns
+
+-- a refusal with these fields
+abbrev pub refused_tree : List (Member Tree) → Tree
+refused_tree fields = v.Object (entry (codes "refused") (v.Object fields) ∷ [])
+
+abbrev pub unknown_method_tree : List ℕ → Tree
+unknown_method_tree method = refused_tree (text_field (codes "method") method ∷ named (codes "UnknownMethod") ∷ [])
+
+abbrev pub no_key_tree : KeyName → Tree
+no_key_tree key = refused_tree (text_field (codes "key") (encode_lower key.bytes) ∷ named (codes "NoKey") ∷ [])
+
+-- ---- the refusal of a proof value
+
+abbrev pub part_name : Part → List ℕ
+part_name part.Array = codes "Array"
+part_name part.BaseSignature = codes "BaseSignature"
+part_name part.PublicKey = codes "PublicKey"
+part_name part.HmacKey = codes "HmacKey"
+part_name part.Signatures = codes "Signatures"
+part_name part.Pointers = codes "Pointers"
+part_name part.LabelMap = codes "LabelMap"
+part_name part.Indexes = codes "Indexes"
+
+abbrev pub fault_field : List ℕ → Member Tree
+fault_field name = text_field (codes "fault") name
+
+-- a fault alone, with a byte, with a part
+abbrev pub plain_fault : List ℕ → List (Member Tree)
+plain_fault name = fault_field name ∷ named (codes "ProofValue") ∷ []
+
+abbrev pub fault_at : List ℕ → ℕ → List (Member Tree)
+fault_at name at = number_field (codes "at") at ∷ fault_field name ∷ named (codes "ProofValue") ∷ []
+
+abbrev pub fault_of : List ℕ → Part → List (Member Tree)
+fault_of name p = fault_field name ∷ named (codes "ProofValue") ∷ text_field (codes "part") (part_name p) ∷ []
+
+abbrev pub cbor_fields : CborFault → List (Member Tree)
+cbor_fields (cbor.Truncated at) = fault_at (codes "Truncated") at
+cbor_fields (cbor.NotShortest at) = fault_at (codes "NotShortest") at
+cbor_fields (cbor.Forbidden at) = fault_at (codes "Forbidden") at
+cbor_fields (cbor.RepeatedKey at) = fault_at (codes "RepeatedKey") at
+cbor_fields (cbor.Trailing at) = fault_at (codes "Trailing") at
+cbor_fields cbor.TooMany = plain_fault (codes "TooMany")
+cbor_fields cbor.Memory = plain_fault (codes "Memory")
+
+abbrev pub value_fields : ValueFault → List (Member Tree)
+value_fields value.NotMultibase = plain_fault (codes "NotMultibase")
+value_fields value.Header = plain_fault (codes "Header")
+value_fields (value.Cbor fault) = cbor_fields fault
+value_fields (value.Shape p) = fault_of (codes "Shape") p
+value_fields (value.Length p) = fault_of (codes "Length") p
+value_fields value.Indexes = plain_fault (codes "Indexes")
+value_fields value.Memory = plain_fault (codes "Memory")
+
+abbrev pub proof_value_tree : ValueFault → Tree
+proof_value_tree fault = refused_tree (value_fields fault)
+
+-- ---- the answers
+
+-- the issued document, and how many statements are mandatory and are there
+abbrev pub issued_tree : Tree → ℕ → ℕ → Tree
+issued_tree document mandatory statements = v.Object (entry (codes "document") document ∷ number_field (codes "mandatory") mandatory ∷ number_field (codes "statements") statements ∷ entry (codes "tie") (v.Bool false) ∷ [])
+
+-- a yes: the issuer key, the label map, the mandatory indexes, the statement key and the number of statements
+abbrev pub verified_tree : KeyName → List ℕ → KeyName → ℕ → Tree
+verified_tree issuer indexes key statements = v.Object (
+    text_field (codes "key") (encode_lower issuer.bytes)
+    ∷ entry (codes "labels") (v.Object [])
+    ∷ entry (codes "mandatory") (v.List (whole_items 0 indexes))
+    ∷ text_field (codes "statementKey") (encode_lower key.bytes)
+    ∷ number_field (codes "statements") statements
+    ∷ entry (codes "tie") (v.Bool false)
+    ∷ entry (codes "verified") (v.Bool true) ∷ [])
+
+abbrev pub cause_fields : Cause → List (Member Tree)
+cause_fields cause.Nothing = named (codes "Nothing") ∷ []
+cause_fields (cause.Labels n) = named (codes "Labels") ∷ number_field (codes "number") n ∷ []
+cause_fields (cause.Indexes k) = number_field (codes "index") k ∷ named (codes "Indexes") ∷ []
+cause_fields (cause.Count signatures statements) = named (codes "Count") ∷ number_field (codes "signatures") signatures ∷ number_field (codes "statements") statements ∷ []
+cause_fields (cause.Expired expires moment) = text_field (codes "expires") expires ∷ text_field (codes "moment") moment ∷ named (codes "Expired") ∷ []
+cause_fields cause.BaseSignature = named (codes "BaseSignature") ∷ []
+cause_fields (cause.StatementSignature k) = number_field (codes "index") k ∷ named (codes "StatementSignature") ∷ []
+
+-- a no, with its cause
+abbrev pub rejected_tree : Cause → Tree
+rejected_tree c = v.Object (entry (codes "cause") (v.Object (cause_fields c)) ∷ entry (codes "verified") (v.Bool false) ∷ [])
