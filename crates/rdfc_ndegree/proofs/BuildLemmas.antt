@@ -1,12 +1,13 @@
 -- Tables built of texts: numbers, rows, and the related nodes of a row.
-use Rattle.std.proofs.Common.{◌≡◌, ◌||◌, ◌==◌, ℕ, zero, suc, ◌<◌, ◌≤◌, List, [], ◌∷◌, ◌++◌, length, get_or, refl, sym, ap, ◌∙◌, subst, inl, inr, arith, Bool, true, false, cond, Contains, Option, Some, None, option_map, bytes_eq, slice_get, append-nil, append_assoc}
+use Rattle.std.proofs.Common.{◌≡◌, ◌||◌, ◌==◌, ℕ, zero, suc, ◌<◌, ◌≤◌, List, [], ◌∷◌, ◌++◌, length, get_or, refl, sym, ap, ◌∙◌, subst, inl, inr, arith, Bool, true, false, cond, map, Contains, Option, Some, None, option_map, bytes_eq, slice_get, append-nil, append_assoc}
 use Rattle.std.specs.Prelude.{◌⊎◌}
 use Rattle.std.specs.Option.{option_eq, is_some}
-use Rattle.std.specs.List.{flat_map}
+use Rattle.std.specs.List.{AllByRecursion, flat_map}
 use Rattle.std.proofs.lemmas.Bool.{false≢true}
 use Rattle.std.proofs.lemmas.Bool.Decides.{Decides-eqb}
 use Rattle.std.proofs.lemmas.Slice.Eq.{bytes_eq-Decides}
 use Rattle.std.proofs.lemmas.List.{map-append}
+use Rattle.std.proofs.lemmas.List.Elements.{Contains-append_left, Contains-append_right}
 use Rattle.std.proofs.Math.ListN.{set}
 use Rattle.base_types.proofs.Lists.{Contains-nil, Contains-here, Contains-there, Contains-cons_cases}
 use Rattle.nquads.specs.declared.hashes.BlankHash.{BlankHash}
@@ -15,7 +16,7 @@ use Rattle.rdfc_ndegree.specs.declared.table.Place.{Place}
 use Rattle.rdfc_ndegree.specs.declared.table.Place.TheVariants as place
 use Rattle.rdfc_ndegree.specs.declared.table.Related.{Related}
 use Rattle.rdfc_ndegree.specs.declared.table.NodeRow.{NodeRow}
-use Rattle.rdfc_ndegree.specs.Building.{number_among, names_of, new_row, with_row, links_at, links, more, related_at, node_related, object_related, relate, related_all}
+use Rattle.rdfc_ndegree.specs.Building.{number_among, names_of, new_row, with_row, with_rows, unknown, links_at, links, more, related_at, node_related, object_related, relate, related_all}
 
 -- ---- numbers of texts
 
@@ -66,10 +67,32 @@ number-Some names text k e = got names k (number-get names text k e)
 pub names-append : (rows : List NodeRow) (row : NodeRow) → names_of (rows ++ row ∷ []) ≡ names_of rows ++ row.blank ∷ []
 names-append rows row = map-append (λ (r : NodeRow). r.blank) rows (row ∷ [])
 
-pub row_added : (names : List (List ℕ)) (old : List NodeRow) (h : BlankHash) → names ≡ names_of old → number_among names h.blank ≡ None → (with_row old h ≡ old ++ new_row h ∷ []) × (names ++ h.blank ∷ [] ≡ names_of (old ++ new_row h ∷ []))
-row_added names old h is none =
-    let e : number_among (names_of old) h.blank ≡ None = ap (λ ns. number_among ns h.blank) (sym is) ∙ none in
-    (ap (λ o. cond (is_some o) old (old ++ new_row h ∷ [])) e, ap (λ ns. ns ++ h.blank ∷ []) is ∙ sym (names-append old (new_row h)))
+-- names stay, and what is put in has one
+
+module _ (rows : List NodeRow) (h : BlankHash) where
+  with_row-kept : (x : List ℕ) → Contains (names_of rows) x → Contains (names_of (with_row rows h)) x
+  with_row-kept x c = go (is_some (number_among (names_of rows) h.blank))
+    where
+      go : (t : Bool) → Contains (names_of (cond t rows (rows ++ new_row h ∷ []))) x
+      go true = c
+      go false = subst (λ ns. Contains ns x) (sym (names-append rows (new_row h))) (Contains-append_left (names_of rows) (h.blank ∷ []) x c)
+
+  with_row-named : Contains (names_of (with_row rows h)) h.blank
+  with_row-named = go (number_among (names_of rows) h.blank) refl
+    where
+      go : (o : Option ℕ) → number_among (names_of rows) h.blank ≡ o → Contains (names_of (cond (is_some o) rows (rows ++ new_row h ∷ []))) h.blank
+      go (Some k) e = number-Some (names_of rows) h.blank k e
+      go None e = subst (λ ns. Contains ns h.blank) (sym (names-append rows (new_row h))) (Contains-append_right (names_of rows) (h.blank ∷ []) h.blank (Contains-here h.blank []))
+
+with_rows-kept : (rows : List NodeRow) (hs : List BlankHash) (x : List ℕ) → Contains (names_of rows) x → Contains (names_of (with_rows rows hs)) x
+with_rows-kept rows [] x c = c
+with_rows-kept rows (h ∷ hs) x c = with_rows-kept (with_row rows h) hs x (with_row-kept rows h x c)
+
+pub others-named : (rows : List NodeRow) (others : List (List ℕ)) → AllByRecursion (Contains (names_of (with_rows rows (map unknown others)))) others
+others-named rows [] = tt
+others-named rows (other ∷ others) =
+    let row = unknown other in
+    (with_rows-kept (with_row rows row) (map unknown others) other (with_row-named rows row), others-named (with_row rows row) others)
 
 -- ---- related nodes of one row
 
@@ -174,9 +197,6 @@ pick rs false false false f g = refl
 is_at-Some : (k : ℕ) (o : Option ℕ) → is_at k o ≡ true → o ≡ Some k
 is_at-Some k None e = absurd (false≢true e)
 is_at-Some k (Some n) e = ap Some ((Decides-eqb n k).0 e)
-
-is_at-itself : (k : ℕ) → is_at k (Some k) ≡ true
-is_at-itself k = (Decides-eqb k k).1 refl
 
 option_eq-Some : (a b : Option ℕ) (k : ℕ) → a ≡ Some k → b ≡ Some k → option_eq ◌==◌ a b ≡ true
 option_eq-Some a b k e f = (λ i. option_eq ◌==◌ (e i) (f i)) ∙ (Decides-eqb k k).1 refl

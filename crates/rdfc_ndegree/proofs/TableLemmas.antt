@@ -6,7 +6,7 @@ use Rattle.std.specs.List.{AllByRecursion, AllZip, concat, flat_map, list_any}
 use Rattle.std.proofs.lemmas.Bool.{false≢true}
 use Rattle.std.proofs.lemmas.Bool.Decides.{Decides-eqb}
 use Rattle.std.proofs.lemmas.List.{map-append}
-use Rattle.std.proofs.lemmas.List.Elements.{All-from_recursion, Contains-append_left, Contains-append_right, Contains-append_cases}
+use Rattle.std.proofs.lemmas.List.Elements.{All-contains, All-from_recursion, Contains-append_left, Contains-append_right, Contains-append_cases}
 use Rattle.std.proofs.lemmas.List.Folds.{list_any-append}
 use Rattle.base_types.specs.Order.{in_order}
 use Rattle.base_types.specs.Sets.{AllDiffer}
@@ -33,7 +33,7 @@ use Rattle.rdfc_ndegree.specs.declared.table.Related.{Related}
 use Rattle.rdfc_ndegree.specs.declared.table.NodeRow.{NodeRow}
 use Rattle.rdfc_ndegree.specs.Building.{number_among, names_of, new_row, with_row, with_rows, unknown, parts_of, links_at, links, more, related_at, node_related, object_related, relate, related_all}
 use Rattle.rdfc_ndegree.proofs.CarryBasics.{Each-append, Each-from_contains, Each-weaker}
-use Rattle.rdfc_ndegree.proofs.BuildLemmas.{number-get, number-below, number-there, number-None, number-Some, is_at, stands, given, gets-all, names-all, names-append}
+use Rattle.rdfc_ndegree.proofs.BuildLemmas.{number-get, number-below, number-there, number-None, number-Some, is_at, stands, given, gets-all, names-all, names-append, others-named}
 
 -- ---- related nodes are rows
 
@@ -112,6 +112,13 @@ with_rows-below n rows (h ∷ hs) b = with_rows-below n (with_row rows h) hs (wi
 -- the built rows, of texts alone
 abbrev pub built : List TextQuad → List BlankHash → List (List ℕ) → List NodeRow
 built quads firsts others = related_all (with_rows (with_rows [] firsts) (map unknown others)) (map (parts_of (names_of (with_rows (with_rows [] firsts) (map unknown others)))) quads)
+
+-- the rows that the steps of the program give, one after another
+pub built-made : {start first second last : List NodeRow} {names : List (List ℕ)} {slice quads : List TextQuad} (firsts : List BlankHash) (others : List (List ℕ)) → start ≡ [] → first ≡ with_rows start firsts → second ≡ with_rows first (map unknown others) → names ≡ names_of second → slice ≡ quads → last ≡ related_all second (map (parts_of names) slice) → last ≡ built quads firsts others
+built-made firsts others none one two names_are same last_is =
+    let rows = two ∙ ap (λ rows. with_rows rows (map unknown others)) (one ∙ ap (λ rows. with_rows rows firsts) none) in
+    let names = names_are ∙ ap names_of rows in
+    last_is ∙ (λ i. related_all (rows i) (map (parts_of (names i)) (same i)))
 
 pub built-closed : (quads : List TextQuad) (firsts : List BlankHash) (others : List (List ℕ)) → IsClosed (built quads firsts others)
 built-closed quads firsts others =
@@ -361,51 +368,26 @@ module _ (q : List Statement) (firsts : List BlankHash) (cs : List Blank) where
       let nothing : about q b ≡ [] = about-nothing q b (λ s m n. free (to_blanks_in q s b m n)) in
       ap (λ ss. record { blank = blank_text b; first = sha256_digits (concat (in_order (map (line (mark b)) ss))); related = [] }) (sym nothing)
 
-  record Further (old : List NodeRow) (u : Blank) (new : List NodeRow) : Type 0 where
-    state : IsState new
-    kept : (x : List ℕ) → Contains (names_of old) x → Contains (names_of new) x
-    there : Contains (names_of new) (blank_text u)
-
-  one_more : (rows : List NodeRow) (u : Blank) → IsState rows → Contains cs u → Further rows u (with_row rows (unknown (blank_text u)))
+  one_more : (rows : List NodeRow) (u : Blank) → IsState rows → Contains cs u → IsState (with_row rows (unknown (blank_text u)))
   one_more rows u s within = go (number_among (names_of rows) (blank_text u)) refl
     where
-      go : (o : Option ℕ) → number_among (names_of rows) (blank_text u) ≡ o → Further rows u (cond (is_some o) rows (rows ++ new_row (unknown (blank_text u)) ∷ []))
-      go (Some k) e = record { state = s; kept = λ x m. m; there = number-Some (names_of rows) (blank_text u) k e }
+      go : (o : Option ℕ) → number_among (names_of rows) (blank_text u) ≡ o → IsState (cond (is_some o) rows (rows ++ new_row (unknown (blank_text u)) ∷ []))
+      go (Some k) e = s
       go None e =
           let row = new_row (unknown (blank_text u)) in
           let absent = number-None (names_of rows) (blank_text u) e in
           let names : names_of (rows ++ row ∷ []) ≡ names_of rows ++ blank_text u ∷ [] = names-append rows row in
-          let kept : (x : List ℕ) → Contains (names_of rows) x → Contains (names_of (rows ++ row ∷ [])) x = λ x m. subst (λ ns. Contains ns x) (sym names) (Contains-append_left (names_of rows) (blank_text u ∷ []) x m) in
           record {
-            state = record {
-              good = Each-append IsGood rows (row ∷ []) s.good (record { node = u; is = unknown_row u (λ stands. absent (s.covers u stands)); from = inr within }, tt);
-              differ = subst AllDiffer (sym names) (differ-push (names_of rows) (blank_text u) s.differ absent);
-              covers = λ b stands. kept (blank_text b) (s.covers b stands);
-              rest = s.rest ++ blank_text u ∷ [];
-              order = names ∙ ap (λ ns. ns ++ blank_text u ∷ []) s.order ∙ append_assoc (map (λ (h : BlankHash). h.blank) firsts) s.rest (blank_text u ∷ []);
-            };
-            kept = kept;
-            there = subst (λ ns. Contains ns (blank_text u)) (sym names) (Contains-append_right (names_of rows) (blank_text u ∷ []) (blank_text u) (Contains-here (blank_text u) []));
+            good = Each-append IsGood rows (row ∷ []) s.good (record { node = u; is = unknown_row u (λ stands. absent (s.covers u stands)); from = inr within }, tt);
+            differ = subst AllDiffer (sym names) (differ-push (names_of rows) (blank_text u) s.differ absent);
+            covers = λ b stands. subst (λ ns. Contains ns (blank_text b)) (sym names) (Contains-append_left (names_of rows) (blank_text u ∷ []) (blank_text b) (s.covers b stands));
+            rest = s.rest ++ blank_text u ∷ [];
+            order = names ∙ ap (λ ns. ns ++ blank_text u ∷ []) s.order ∙ append_assoc (map (λ (h : BlankHash). h.blank) firsts) s.rest (blank_text u ∷ []);
           }
 
-  record Furthers (old : List NodeRow) (us : List Blank) (new : List NodeRow) : Type 0 where
-    state : IsState new
-    kept : (x : List ℕ) → Contains (names_of old) x → Contains (names_of new) x
-    there : (u : Blank) → Contains us u → Contains (names_of new) (blank_text u)
-
-  all_more : (rows : List NodeRow) (us : List Blank) → IsState rows → ((u : Blank) → Contains us u → Contains cs u) → Furthers rows us (with_rows rows (map unknown (map blank_text us)))
-  all_more rows [] s within = record { state = s; kept = λ x m. m; there = λ u m. absurd (Contains-nil u m) }
-  all_more rows (u ∷ us) s within =
-      let one = one_more rows u s (within u (Contains-here u us)) in
-      let rest = all_more (with_row rows (unknown (blank_text u))) us one.state (λ v m. within v (Contains-there u us v m)) in
-      record {
-        state = rest.state;
-        kept = λ x m. rest.kept x (one.kept x m);
-        there = λ v m. elim (Contains-cons_cases u us v m) [
-          | inl e ↦ subst (λ w. Contains (names_of (with_rows (with_row rows (unknown (blank_text u))) (map unknown (map blank_text us)))) (blank_text w)) e (rest.kept (blank_text u) one.there)
-          | inr d ↦ rest.there v d
-        ];
-      }
+  all_more : (rows : List NodeRow) (us : List Blank) → IsState rows → ((u : Blank) → Contains us u → Contains cs u) → IsState (with_rows rows (map unknown (map blank_text us)))
+  all_more rows [] s within = s
+  all_more rows (u ∷ us) s within = all_more (with_row rows (unknown (blank_text u))) us (one_more rows u s (within u (Contains-here u us))) (λ v m. within v (Contains-there u us v m))
 
   -- the blank nodes of the rows
   record Drawn (rows : List NodeRow) : Type 0 where
@@ -484,6 +466,16 @@ built_table q firsts cs rows s there =
 
 pub built-with : (q : List Statement) (cs : List Blank) (quads : List TextQuad) (firsts : List BlankHash) (others : List (List ℕ)) → quads ≡ map spelled q → AreFirstHashes sha256_digits q firsts → others ≡ map blank_text cs → IsTableWith q firsts cs (built quads firsts others)
 built-with q cs quads firsts others is are other =
-    let more = all_more q firsts cs (with_rows [] firsts) cs (firsts_state q firsts cs are) (λ u m. m) in
-    let table = built_table q firsts cs (with_rows (with_rows [] firsts) (map unknown (map blank_text cs))) more.state more.there in
+    let rows = with_rows (with_rows [] firsts) (map unknown (map blank_text cs)) in
+    let state = all_more q firsts cs (with_rows [] firsts) cs (firsts_state q firsts cs are) (λ u m. m) in
+    let named : All (Contains (names_of rows)) (map blank_text cs) = All-from_recursion (Contains (names_of rows)) (map blank_text cs) (others-named (with_rows [] firsts) (map blank_text cs)) in
+    let there : (u : Blank) → Contains cs u → Contains (names_of rows) (blank_text u) = λ u m. All-contains (Contains (names_of rows)) (map blank_text cs) (blank_text u) named (Contains-map blank_text cs u m) in
+    let table = built_table q firsts cs rows state there in
     subst (λ os. IsTableWith q firsts cs (built quads firsts os)) (sym other) (subst (λ qs. IsTableWith q firsts cs (built qs firsts (map blank_text cs))) (sym is) table)
+
+-- each further name is a name of the table
+pub built-named : (quads : List TextQuad) (firsts : List BlankHash) (others : List (List ℕ)) → All (Contains (names_of (built quads firsts others))) others
+built-named quads firsts others =
+    let rows = with_rows (with_rows [] firsts) (map unknown others) in
+    let named = All-from_recursion (Contains (names_of rows)) others (others-named (with_rows [] firsts) others) in
+    subst (λ ns. All (Contains ns) others) (sym (names-all rows (map (parts_of (names_of rows)) quads))) named

@@ -1,4 +1,4 @@
-ghost use Rattle.std.specs.Prelude.{◌≡◌, List, map, IfOk, OnOk, Contains};
+ghost use Rattle.std.specs.Prelude.{◌≡◌, List, map, All, IfOk, OnOk, Contains};
 ghost use Rattle.digest_mac.specs.Digests.{sha256_digits};
 ghost use Rattle.nquads.specs.Terms.{Blank, Statement};
 ghost use Rattle.nquads.specs.Spelling.{blank_text, spelled};
@@ -35,9 +35,10 @@ pub fn node_table(
     firsts: &[BlankHash],
     others: &[Text],
 ) -> Result<NodeTable, Memory>
-    ensures { (q : List Statement) (cs : List Blank) → quads.now ≡ map spelled q
+    ensures table { (q : List Statement) (cs : List Blank) → quads.now ≡ map spelled q
         → AreFirstHashes sha256_digits q firsts.now → others.now ≡ map blank_text cs
         → IfOk result (λ table. IsTableWith q firsts.now cs table) }
+    ensures named { IfOk result (λ table. All (Contains (names_of table)) others.now) }
 {
     let mut names = Names::new(alloc);
     let mut rows = Vec::new(alloc);

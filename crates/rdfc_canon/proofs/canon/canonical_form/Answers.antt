@@ -15,7 +15,7 @@ returns-in_err-table c = λ q is. fault-there q c.args.limits.now c.from_residua
 
 pub returns-in_err-numbered : goal.returns-in_err-numbered
 returns-in_err-numbered c = λ q is.
-    let t = c.in_ok-table.ensures q [] is (subst (AreFirstHashes sha256_digits q) (sym c.as_slice.ensures.value) (c.in_ok-firsts.ensures.exact q is)) refl in
+    let t = c.in_ok-table.ensures.table q [] is (subst (AreFirstHashes sha256_digits q) (sym c.as_slice.ensures.value) (c.in_ok-firsts.ensures.exact q is)) refl in
     fault-there q c.args.limits.now c.from_residual-in_err-numbered.result c.in_err-numbered.field-0.0 c.from_residual-in_err-numbered.ensures.1
     (fault-carried q c.as_slice.result.now c.in_ok-table.table c.args.limits.now c.in_err-numbered.field-0.0 t c.in_err-numbered.ensures.fault)
 
@@ -27,7 +27,7 @@ returns-in_err-lines c = λ q is. fault-there q c.args.limits.now c.from_residua
 
 pub returns : goal.returns
 returns c = λ q is.
-    let t = c.in_ok-table.ensures q [] is (subst (AreFirstHashes sha256_digits q) (sym c.as_slice.ensures.value) (c.in_ok-firsts.ensures.exact q is)) refl in
+    let t = c.in_ok-table.ensures.table q [] is (subst (AreFirstHashes sha256_digits q) (sym c.as_slice.ensures.value) (c.in_ok-firsts.ensures.exact q is)) refl in
     let a : Answered q c.as_slice.result.now c.in_ok-table.table c.args.quads.now c.args.limits.now.work c.args.limits.now.depth c.in_ok-labels.labels c.in_ok-lines.lines c.in_ok-numbered.numbered.tie c.in_ok-numbered.numbered.work = record {
       issuer = c.in_ok-numbered.numbered.canonical;
       is = is;

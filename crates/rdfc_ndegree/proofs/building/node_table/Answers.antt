@@ -1,20 +1,16 @@
-use Rattle.std.proofs.Common.{◌≡◌, ap, ◌∙◌, sym, subst, map}
+use Rattle.std.proofs.Common.{ap, ◌∙◌, sym, subst, map}
+use Rattle.std.specs.Prelude.{All, Contains}
 use Rattle.rdfc_ndegree.specs.Table.{IsClosed}
 use Rattle.rdfc_ndegree.specs.TableOf.{IsTableWith}
-use Rattle.rdfc_ndegree.specs.Building.{names_of, with_rows, related_all, parts_of, unknown}
+use Rattle.rdfc_ndegree.specs.Building.{names_of, parts_of}
 use Rattle.rdfc_ndegree.proofs.BuildLemmas.{names-all}
-use Rattle.rdfc_ndegree.proofs.TableLemmas.{built, built-closed, built-with}
+use Rattle.rdfc_ndegree.proofs.TableLemmas.{built-made, built-closed, built-with, built-named}
 use Rattle.rdfc_ndegree.proofs.building.node_table.Goals as goal
 
 pub from_rows-requires-clause-closed : goal.from_rows-requires-clause-closed
 from_rows-requires-clause-closed c =
-    let firsts = c.args.firsts.now in
-    let others = c.args.others.now in
-    let one = c.in_ok-add_firsts.ensures.rows ∙ ap (λ rows. with_rows rows firsts) c.new-rows.ensures.items in
-    let two = c.in_ok-add_others.ensures.rows ∙ ap (λ rows. with_rows rows (map unknown others)) one in
-    let names = c.in_ok-add_others.ensures.names ∙ ap names_of two in
-    let made : c.relate_all.new.rows.items ≡ built c.args.quads.now firsts others = c.in_ok-relate_all.ensures ∙ (λ i. related_all (two i) (map (parts_of (names i)) (c.as_slice.ensures.same i))) in
-    subst IsClosed (sym made) (built-closed c.args.quads.now firsts others)
+    let made = built-made c.args.firsts.now c.args.others.now c.new-rows.ensures.items c.in_ok-add_firsts.ensures.rows c.in_ok-add_others.ensures.rows c.in_ok-add_others.ensures.names c.as_slice.ensures.same c.in_ok-relate_all.ensures in
+    subst IsClosed (sym made) (built-closed c.args.quads.now c.args.firsts.now c.args.others.now)
 
 pub from_rows-requires-clause-named : goal.from_rows-requires-clause-named
 from_rows-requires-clause-named c =
@@ -22,12 +18,12 @@ from_rows-requires-clause-named c =
     ∙ sym (names-all c.add_others.new.rows.items (map (parts_of c.add_others.new.names) c.as_slice.result.now))
     ∙ ap names_of (sym c.in_ok-relate_all.ensures)
 
-pub returns : goal.returns
-returns c = λ q cs is are other.
-    let firsts = c.args.firsts.now in
-    let others = c.args.others.now in
-    let one = c.in_ok-add_firsts.ensures.rows ∙ ap (λ rows. with_rows rows firsts) c.new-rows.ensures.items in
-    let two = c.in_ok-add_others.ensures.rows ∙ ap (λ rows. with_rows rows (map unknown others)) one in
-    let names = c.in_ok-add_others.ensures.names ∙ ap names_of two in
-    let made : c.relate_all.new.rows.items ≡ built c.args.quads.now firsts others = c.in_ok-relate_all.ensures ∙ (λ i. related_all (two i) (map (parts_of (names i)) (c.as_slice.ensures.same i))) in
-    subst (IsTableWith q firsts cs) (sym (c.from_rows.ensures ∙ made)) (built-with q cs c.args.quads.now firsts others is are other)
+pub returns-clause-table : goal.returns-clause-table
+returns-clause-table c = λ q cs is are other.
+    let made = built-made c.args.firsts.now c.args.others.now c.new-rows.ensures.items c.in_ok-add_firsts.ensures.rows c.in_ok-add_others.ensures.rows c.in_ok-add_others.ensures.names c.as_slice.ensures.same c.in_ok-relate_all.ensures in
+    subst (IsTableWith q c.args.firsts.now cs) (sym (c.from_rows.ensures ∙ made)) (built-with q cs c.args.quads.now c.args.firsts.now c.args.others.now is are other)
+
+pub returns-clause-named : goal.returns-clause-named
+returns-clause-named c =
+    let made = built-made c.args.firsts.now c.args.others.now c.new-rows.ensures.items c.in_ok-add_firsts.ensures.rows c.in_ok-add_others.ensures.rows c.in_ok-add_others.ensures.names c.as_slice.ensures.same c.in_ok-relate_all.ensures in
+    subst (λ rows. All (Contains (names_of rows)) c.args.others.now) (sym (c.from_rows.ensures ∙ made)) (built-named c.args.quads.now c.args.firsts.now c.args.others.now)
