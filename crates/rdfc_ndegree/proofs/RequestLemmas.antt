@@ -1,35 +1,34 @@
 -- A call over a table answers for the blank nodes of its dataset.
 use Rattle.std.proofs.Common.{◌≡◌, ◌==◌, ◌||◌, ℕ, suc, ◌<◌, List, [], ◌∷◌, ◌++◌, map, length, refl, sym, ap, ◌∙◌, subst, inl, inr, Bool, true, false, cond, Contains, Option, Some, None, option_map, slice_get, append-nil, append_assoc}
+use Rattle.std.specs.Prelude.{All}
 use Rattle.std.specs.List.{AllByRecursion, AllZip, cons_option, filter_map, list_any}
 use Rattle.std.proofs.lemmas.Bool.{false≢true}
 use Rattle.std.proofs.lemmas.Bool.Decides.{Decides-eqb}
-use Rattle.std.proofs.lemmas.Option.{get_or_from_slice_get, slice_get_within, slice_get-get_or}
+use Rattle.std.proofs.lemmas.Option.{get_or_from_slice_get, slice_get-get_or}
 use Rattle.std.proofs.lemmas.List.{map-append}
-use Rattle.std.proofs.lemmas.List.Elements.{recursion_from_All, All-contains, Contains-append_left, Contains-append_right, Contains-append_cases}
+use Rattle.std.proofs.lemmas.List.Elements.{All-contains, Contains-append_left, Contains-append_right, Contains-append_cases}
 use Rattle.base_types.specs.Sets.{AllDiffer}
 use Rattle.base_types.proofs.Lists.{Contains-nil, Contains-here, Contains-there, Contains-cons_cases, Contains-map}
 use Rattle.digest_mac.specs.Digests.{sha256_digits}
 use Rattle.nquads.specs.Terms.{Blank, Statement}
-use Rattle.nquads.specs.Renaming.{StandsIn}
 use Rattle.nquads.specs.Spelling.{blank_text, spelled}
 use Rattle.nquads.specs.declared.hashes.BlankHash.{BlankHash}
 use Rattle.nquads.specs.declared.quads.TextQuad.{TextQuad}
 use Rattle.nquads.specs.FirstDegree.{AreFirstHashes}
-use Rattle.nquads.proofs.ReadingTerms.{blank_text_one_reading}
-use Rattle.nquads.proofs.ReadingElements.{AllDiffer-nil, AllDiffer-cons, AllDiffer-head, AllDiffer-tail, AllDiffer-map}
+use Rattle.nquads.proofs.ReadingElements.{AllDiffer-nil, AllDiffer-cons, AllDiffer-head, AllDiffer-tail}
 use Rattle.rdfc_ndegree.specs.NDegree.{Outcome, IsNDegree}
 use Rattle.rdfc_ndegree.specs.Datasets.{nodes_of}
 use Rattle.rdfc_ndegree.specs.Table.{table_nodes}
 use Rattle.rdfc_ndegree.specs.TableOf.{IsRowOf, IsTableOf, IsTableWith}
 use Rattle.rdfc_ndegree.specs.Answers.{AnswersCall, CallOver, CallDeep}
 use Rattle.rdfc_ndegree.specs.Building.{number_among, names_of}
-use Rattle.rdfc_ndegree.specs.Requests.{IsSpelledCall, IsRequest, issued, name_at}
+use Rattle.rdfc_ndegree.specs.Requests.{IsSpelledCall, issued, name_at}
 use Rattle.rdfc_ndegree.specs.declared.table.NodeRow.{NodeRow}
 use Rattle.rdfc_ndegree.proofs.Carry.{outcome_f, IsNDegree-carried, IsNDegree-inside}
 use Rattle.rdfc_ndegree.proofs.CarryBasics.{Each-from_contains}
 use Rattle.rdfc_ndegree.proofs.TableCarry.{at, no_blank, table-carries}
-use Rattle.rdfc_ndegree.proofs.BuildLemmas.{number-get}
-use Rattle.rdfc_ndegree.proofs.TableLemmas.{numbered_blank, got_map, differ-from_map, zip-find, length-names}
+use Rattle.rdfc_ndegree.proofs.BuildLemmas.{number-get, number-below}
+use Rattle.rdfc_ndegree.proofs.TableLemmas.{numbered_blank, got_map, zip-find, length-names}
 
 -- ---- the issuer that has named a list without repeats
 
@@ -67,19 +66,14 @@ differ-unmap f (x ∷ xs) a = AllDiffer-cons x xs (λ m. AllDiffer-head (f x) (m
 
 -- ---- numbers for texts, and texts for numbers
 
-record AreNumbers (bs : List Blank) (cs : List Blank) (ks : List ℕ) : Type 0 where
-  inside : AllByRecursion (λ k. k < length bs) ks
-  are : map (at bs) ks ≡ cs
-
-numbers-are : (bs cs : List Blank) → AllByRecursion (Contains bs) cs → AreNumbers bs cs (filter_map (number_among (map blank_text bs)) (map blank_text cs))
-numbers-are bs [] h = record { inside = tt; are = refl }
+numbers-are : (bs cs : List Blank) → AllByRecursion (Contains bs) cs → map (at bs) (filter_map (number_among (map blank_text bs)) (map blank_text cs)) ≡ cs
+numbers-are bs [] h = refl
 numbers-are bs (c ∷ cs) h =
     let k = numbered_blank bs c h.0 in
     let rest = numbers-are bs cs h.1 in
     let step : filter_map (number_among (map blank_text bs)) (map blank_text (c ∷ cs)) ≡ k.0 ∷ filter_map (number_among (map blank_text bs)) (map blank_text cs) = ap (λ o. cons_option o (filter_map (number_among (map blank_text bs)) (map blank_text cs))) k.1 in
     let first : at bs k.0 ≡ c = get_or_from_slice_get bs k.0 c no_blank k.2 in
-    let more = rest.are in
-    subst (AreNumbers bs (c ∷ cs)) (sym step) (record { inside = (slice_get_within bs k.0 c k.2, rest.inside); are = λ j. first j ∷ more j })
+    ap (map (at bs)) step ∙ (λ j. first j ∷ rest j)
 
 rows-named : (q : List Statement) (bs : List Blank) (all : List Blank) (rows : List NodeRow) → AllZip (IsRowOf q all) bs rows → names_of rows ≡ map blank_text bs
 rows-named q [] all [] z = refl
@@ -157,78 +151,74 @@ module _ {q : List Statement} {n : Blank} {c i : List Blank} {rows : List NodeRo
   pub deep : {depth limit : ℕ} → CallDeep (table_nodes rows) canonical node issuer depth limit → CallDeep (nodes_of sha256_digits q) c n i depth limit
   deep a = record { outcome = outcome_f (at s.nodes) a.outcome; call = (there a.outcome a.call).call; over = a.over }
 
+-- ---- numbers are rows, whatever the texts are
+
+pub number-inside : (rows : List NodeRow) (text : List ℕ) (k : ℕ) → number_among (names_of rows) text ≡ Some k → k < length rows
+number-inside rows text k e = subst (λ n. k < n) (length-names rows) (number-below (names_of rows) text k e)
+
+pub numbers-inside : (rows : List NodeRow) (texts : List (List ℕ)) → AllByRecursion (λ k. k < length rows) (filter_map (number_among (names_of rows)) texts)
+numbers-inside rows [] = tt
+numbers-inside rows (text ∷ texts) = go (number_among (names_of rows) text) refl (numbers-inside rows texts)
+  where
+    go : (o : Option ℕ) → number_among (names_of rows) text ≡ o → AllByRecursion (λ k. k < length rows) (filter_map (number_among (names_of rows)) texts) → AllByRecursion (λ k. k < length rows) (cons_option o (filter_map (number_among (names_of rows)) texts))
+    go None e rest = rest
+    go (Some k) e rest = (number-inside rows text k e, rest)
+
+-- the last of the further names is one of the table
+pub last-named : (names others : List (List ℕ)) (canonical issuer : List (List ℕ)) (node : List ℕ) → others ≡ canonical ++ (issuer ++ node ∷ []) → All (Contains names) others → Contains names node
+last-named names others canonical issuer node is all =
+    let there = Contains-append_right canonical (issuer ++ node ∷ []) node (Contains-append_right issuer (node ∷ []) node (Contains-here node [])) in
+    All-contains (Contains names) others node all (subst (λ ts. Contains ts node) (sym is) there)
+
 -- ---- from the texts of a call
 
-pub carried_call : (q : List Statement) (n : Blank) (c i : List Blank) (firsts : List BlankHash) (rows : List NodeRow) (canonical named : List ℕ) (node : List ℕ) (number : ℕ) (issuer : List ℕ) (canonical_texts issuer_texts : List (List ℕ)) → IsTableWith q firsts (c ++ i) rows → AllDiffer c → canonical_texts ≡ map blank_text c → issuer_texts ≡ map blank_text i → canonical ≡ issued [] (filter_map (number_among (names_of rows)) canonical_texts) → issuer ≡ filter_map (number_among (names_of rows)) issuer_texts → number_among (names_of rows) node ≡ Some number → node ≡ blank_text n → IsCarried q n c i rows canonical number issuer
-carried_call q n c i firsts rows canonical named node number issuer canonical_texts issuer_texts t differ cs is canonical_is issuer_is number_is node_is =
+-- the blank nodes whose texts the table is made with
+abbrev called_on : Blank → List Blank → List Blank → List Blank
+called_on n c i = c ++ (i ++ n ∷ [])
+
+carried_call : (q : List Statement) (n : Blank) (c i : List Blank) (firsts : List BlankHash) (rows : List NodeRow) (canonical : List ℕ) (node : List ℕ) (number : ℕ) (issuer : List ℕ) (canonical_texts issuer_texts : List (List ℕ)) → IsTableWith q firsts (called_on n c i) rows → AllDiffer c → canonical_texts ≡ map blank_text c → issuer_texts ≡ map blank_text i → canonical ≡ issued [] (filter_map (number_among (names_of rows)) canonical_texts) → issuer ≡ filter_map (number_among (names_of rows)) issuer_texts → number_among (names_of rows) node ≡ Some number → node ≡ blank_text n → IsCarried q n c i rows canonical number issuer
+carried_call q n c i firsts rows canonical node number issuer canonical_texts issuer_texts t differ cs is canonical_is issuer_is number_is node_is =
     let bs = t.nodes in
+    let all = called_on n c i in
     let names : names_of rows ≡ map blank_text bs = rows-named q bs bs rows t.table.each in
-    let same : length bs ≡ length rows = long q bs rows t.table in
-    let each : AllByRecursion (Contains bs) (c ++ i) = recursion_from_All (Contains bs) (c ++ i) t.others in
-    let each_c : AllByRecursion (Contains bs) c = Each-from_contains (Contains bs) c (λ b m. All-contains (Contains bs) (c ++ i) b t.others (Contains-append_left c i b m)) in
-    let each_i : AllByRecursion (Contains bs) i = Each-from_contains (Contains bs) i (λ b m. All-contains (Contains bs) (c ++ i) b t.others (Contains-append_right c i b m)) in
-    let kc = numbers-are bs c each_c in
-    let ki = numbers-are bs i each_i in
-    let c_numbers : List ℕ = filter_map (number_among (map blank_text bs)) (map blank_text c) in
-    let i_numbers : List ℕ = filter_map (number_among (map blank_text bs)) (map blank_text i) in
-    let c_same : issued [] c_numbers ≡ c_numbers = issued-append [] c_numbers (differ-unmap (at bs) c_numbers (subst AllDiffer (sym kc.are) differ)) (λ k m e. Contains-nil k e) in
-    let c_is : canonical ≡ c_numbers = canonical_is ∙ (λ j. issued [] (filter_map (number_among (names j)) (cs j))) ∙ c_same in
-    let i_is : issuer ≡ i_numbers = issuer_is ∙ (λ j. filter_map (number_among (names j)) (is j)) in
+    let there : (b : Blank) → Contains all b → Contains bs b = λ b m. All-contains (Contains bs) all b t.others m in
+    let each_c : AllByRecursion (Contains bs) c = Each-from_contains (Contains bs) c (λ b m. there b (Contains-append_left c (i ++ n ∷ []) b m)) in
+    let each_i : AllByRecursion (Contains bs) i = Each-from_contains (Contains bs) i (λ b m. there b (Contains-append_right c (i ++ n ∷ []) b (Contains-append_left i (n ∷ []) b m))) in
+    let c_numbers : List ℕ = filter_map (number_among (names_of rows)) canonical_texts in
+    let c_are : map (at bs) c_numbers ≡ c = (λ j. map (at bs) (filter_map (number_among (names j)) (cs j))) ∙ numbers-are bs c each_c in
+    let c_is : canonical ≡ c_numbers = canonical_is ∙ issued-append [] c_numbers (differ-unmap (at bs) c_numbers (subst AllDiffer (sym c_are) differ)) (λ k m e. Contains-nil k e) in
+    let i_are : map (at bs) (filter_map (number_among (names_of rows)) issuer_texts) ≡ i = (λ j. map (at bs) (filter_map (number_among (names j)) (is j))) ∙ numbers-are bs i each_i in
     let k_is : number_among (map blank_text bs) (blank_text n) ≡ Some number = (λ j. number_among (sym names j) (sym node_is j)) ∙ number_is in
     let got : slice_get bs number ≡ Some n = got_map bs number n (number-get (map blank_text bs) (blank_text n) number k_is) in
-    let below = slice_get_within bs number n got in
     record {
       nodes = bs;
       table = t.table;
-      node_inside = subst (λ m. number < m) same below;
-      canonical_inside = subst (λ ks. AllByRecursion (λ k. k < length rows) ks) (sym c_is) (subst (λ m. AllByRecursion (λ k. k < m) c_numbers) same kc.inside);
-      issuer_inside = subst (λ ks. AllByRecursion (λ k. k < length rows) ks) (sym i_is) (subst (λ m. AllByRecursion (λ k. k < m) i_numbers) same ki.inside);
+      node_inside = number-inside rows node number number_is;
+      canonical_inside = subst (AllByRecursion (λ k. k < length rows)) (sym c_is) (numbers-inside rows canonical_texts);
+      issuer_inside = subst (AllByRecursion (λ k. k < length rows)) (sym issuer_is) (numbers-inside rows issuer_texts);
       node_at = get_or_from_slice_get bs number n no_blank got;
-      canonical_at = ap (map (at bs)) c_is ∙ kc.are;
-      issuer_at = ap (map (at bs)) i_is ∙ ki.are;
+      canonical_at = ap (map (at bs)) c_is ∙ c_are;
+      issuer_at = ap (map (at bs)) issuer_is ∙ i_are;
     }
-
--- no issuer of the request names a node twice, whatever names its texts are read as
-pub named_once : (c d : List Blank) (texts : List (List ℕ)) → AllDiffer c → texts ≡ map blank_text c → texts ≡ map blank_text d → AllDiffer d
-named_once c d texts a e f = differ-from_map d (subst AllDiffer (sym e ∙ f) (AllDiffer-map blank_text c (λ x y m o. blank_text_one_reading x y) a))
-
--- the node of the request has a number
-pub node_numbered : (q : List Statement) (firsts : List BlankHash) (cs : List Blank) (rows : List NodeRow) (n : Blank) (node : List ℕ) → IsTableWith q firsts cs rows → StandsIn q n → node ≡ blank_text n → number_among (names_of rows) node ≡ None → ⊥
-node_numbered q firsts cs rows n node t stands is none =
-    let names : names_of rows ≡ map blank_text t.nodes = rows-named q t.nodes t.nodes rows t.table.each in
-    let k = numbered_blank t.nodes n (t.table.covers n stands) in
-    let both : None ≡ Some k.0 = sym none ∙ (λ j. number_among (names j) (is j)) ∙ k.1 in
-    absurd (cc)
 
 -- ---- the steps of the call, one after another
 
-module _ {quads : List TextQuad} {firsts : List BlankHash} {canonical : List (List ℕ)} {node : List ℕ} {issuer : List (List ℕ)} {depth : ℕ} (request : IsRequest quads firsts canonical node issuer depth) where
-  pub record Steps (rows : List NodeRow) (named : List ℕ) (found : Option ℕ) (begun : List ℕ) : Type 0 where
-    pub table : (q : List Statement) (cs : List Blank) → quads ≡ map spelled q → AreFirstHashes sha256_digits q firsts → canonical ++ issuer ≡ map blank_text cs → IsTableWith q firsts cs rows
-    pub named_is : named ≡ issued [] (filter_map (number_among (names_of rows)) canonical)
-    pub begun_is : begun ≡ filter_map (number_among (names_of rows)) issuer
-    pub found_is : number_among (names_of rows) node ≡ found
+pub record Steps (quads : List TextQuad) (firsts : List BlankHash) (canonical : List (List ℕ)) (node : List ℕ) (issuer : List (List ℕ)) (rows : List NodeRow) (named : List ℕ) (number : ℕ) (begun : List ℕ) : Type 0 where
+  pub table : (q : List Statement) (cs : List Blank) → quads ≡ map spelled q → AreFirstHashes sha256_digits q firsts → canonical ++ (issuer ++ node ∷ []) ≡ map blank_text cs → IsTableWith q firsts cs rows
+  pub named_is : named ≡ issued [] (filter_map (number_among (names_of rows)) canonical)
+  pub begun_is : begun ≡ filter_map (number_among (names_of rows)) issuer
+  pub number_is : number_among (names_of rows) node ≡ Some number
 
-  pub steps : (first second : List (List ℕ)) (text : List ℕ) (rows : List NodeRow) (named : List ℕ) (found : Option ℕ) (begun : List ℕ) → first ≡ canonical → second ≡ issuer → ((q : List Statement) (cs : List Blank) → quads ≡ map spelled q → AreFirstHashes sha256_digits q firsts → first ++ second ≡ map blank_text cs → IsTableWith q firsts cs rows) → named ≡ issued [] (filter_map (number_among (names_of rows)) first) → begun ≡ filter_map (number_among (names_of rows)) second → text ≡ node → found ≡ number_among (names_of rows) text → Steps rows named found begun
-  steps first second text rows named found begun a b table named_is begun_is g found_is = record {
-    table = λ q cs is are all. table q cs is are ((λ j. a j ++ b j) ∙ all);
-    named_is = named_is ∙ ap (λ ts. issued [] (filter_map (number_among (names_of rows)) ts)) a;
-    begun_is = begun_is ∙ ap (filter_map (number_among (names_of rows))) b;
-    found_is = ap (number_among (names_of rows)) (sym g) ∙ sym found_is;
-  }
+pub steps : {quads : List TextQuad} {firsts : List BlankHash} {canonical : List (List ℕ)} {node : List ℕ} {issuer : List (List ℕ)} {first second : List (List ℕ)} {text : List ℕ} {rows : List NodeRow} {named : List ℕ} {number : ℕ} {begun : List ℕ} → first ≡ canonical → second ≡ issuer → ((q : List Statement) (cs : List Blank) → quads ≡ map spelled q → AreFirstHashes sha256_digits q firsts → first ++ (second ++ node ∷ []) ≡ map blank_text cs → IsTableWith q firsts cs rows) → named ≡ issued [] (filter_map (number_among (names_of rows)) first) → begun ≡ filter_map (number_among (names_of rows)) second → text ≡ node → Some number ≡ number_among (names_of rows) text → Steps quads firsts canonical node issuer rows named number begun
+steps {node = node} {rows = rows} a b table named_is begun_is g number_is = record {
+  table = λ q cs is are all. table q cs is are ((λ j. a j ++ (b j ++ node ∷ [])) ∙ all);
+  named_is = named_is ∙ ap (λ ts. issued [] (filter_map (number_among (names_of rows)) ts)) a;
+  begun_is = begun_is ∙ ap (filter_map (number_among (names_of rows))) b;
+  number_is = ap (number_among (names_of rows)) (sym g) ∙ sym number_is;
+}
 
-  pub request_found : {rows : List NodeRow} {named begun : List ℕ} → Steps rows named None begun → ⊥
-  request_found {rows = rows} s =
-      let r = request in
-      let all : canonical ++ issuer ≡ map blank_text (r.named ++ r.begun) = (λ j. r.spelled_call.canonical_is j ++ r.spelled_call.issuer_is j) ∙ sym (map-append blank_text r.named r.begun) in
-      node_numbered r.dataset firsts (r.named ++ r.begun) rows r.blank node (s.table r.dataset (r.named ++ r.begun) r.spelled_call.quads_are r.spelled_call.hashes all) r.stands r.spelled_call.node_is s.found_is
-
-  pub request_carried : (q : List Statement) (n : Blank) (c i : List Blank) → IsSpelledCall q n c i quads firsts canonical node issuer → {rows : List NodeRow} {named begun : List ℕ} {number : ℕ} → Steps rows named (Some number) begun → IsCarried q n c i rows named number begun
-  request_carried q n c i call {rows = rows} {named = named} {begun = begun} {number = number} s =
-      let r = request in
-      let all : canonical ++ issuer ≡ map blank_text (c ++ i) = (λ j. call.canonical_is j ++ call.issuer_is j) ∙ sym (map-append blank_text c i) in
-      carried_call q n c i firsts rows named [] node number begun canonical issuer (s.table q (c ++ i) call.quads_are call.hashes all) (named_once r.named c canonical r.named_once r.spelled_call.canonical_is call.canonical_is) call.canonical_is call.issuer_is s.named_is s.begun_is s.found_is call.node_is
-
-  -- the same for the request's own call
-  pub request_own : {rows : List NodeRow} {named begun : List ℕ} {number : ℕ} → Steps rows named (Some number) begun → IsCarried request.dataset request.blank request.named request.begun rows named number begun
-  request_own s = request_carried request.dataset request.blank request.named request.begun request.spelled_call s
+pub call_carried : {quads : List TextQuad} {firsts : List BlankHash} {canonical : List (List ℕ)} {node : List ℕ} {issuer : List (List ℕ)} (q : List Statement) (n : Blank) (c i : List Blank) → IsSpelledCall q n c i quads firsts canonical node issuer → {rows : List NodeRow} {named begun : List ℕ} {number : ℕ} → Steps quads firsts canonical node issuer rows named number begun → IsCarried q n c i rows named number begun
+call_carried {firsts = firsts} {canonical = canonical} {node = node} {issuer = issuer} q n c i call {rows = rows} {named = named} {begun = begun} {number = number} s =
+    let texts : canonical ++ (issuer ++ node ∷ []) ≡ map blank_text c ++ (map blank_text i ++ blank_text n ∷ []) = λ j. call.canonical_is j ++ (call.issuer_is j ++ call.node_is j ∷ []) in
+    let all : canonical ++ (issuer ++ node ∷ []) ≡ map blank_text (called_on n c i) = texts ∙ ap (λ ts. map blank_text c ++ ts) (sym (map-append blank_text i (n ∷ []))) ∙ sym (map-append blank_text c (i ++ n ∷ [])) in
+    carried_call q n c i firsts rows named node number begun canonical issuer (s.table q (called_on n c i) call.quads_are call.hashes all) call.named_once call.canonical_is call.issuer_is s.named_is s.begun_is s.number_is call.node_is

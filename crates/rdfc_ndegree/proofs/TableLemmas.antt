@@ -404,7 +404,7 @@ module _ (q : List Statement) (firsts : List BlankHash) (cs : List Blank) where
       let rest = d.names in
       record { nodes = good.0.node ∷ d.nodes; zip = (good.0.is, d.zip); each = (good.0.from, d.each); names = λ i. first i ∷ rest i }
 
-pub differ-from_map : (bs : List Blank) → AllDiffer (map blank_text bs) → AllDiffer bs
+differ-from_map : (bs : List Blank) → AllDiffer (map blank_text bs) → AllDiffer bs
 differ-from_map [] a = AllDiffer-nil
 differ-from_map (b ∷ bs) a = AllDiffer-cons b bs (λ m. AllDiffer-head (blank_text b) (map blank_text bs) a (Contains-map blank_text bs b m)) (differ-from_map bs (AllDiffer-tail (blank_text b) (map blank_text bs) a))
 

@@ -1,38 +1,25 @@
 -- Calls for blank nodes by their texts.
-use Rattle.std.specs.Prelude.{◌≡◌, ◌≤◌, ◌==◌, ℕ, List, [], ◌∷◌, ◌++◌, map, Contains, Option, if◌then◌else◌, slice_get}
+use Rattle.std.specs.Prelude.{◌≡◌, ◌==◌, ℕ, List, [], ◌∷◌, ◌++◌, map, Option, if◌then◌else◌, slice_get}
 use Rattle.std.specs.List.{list_any}
 use Rattle.std.specs.Option.{option_map}
 use Rattle.base_types.specs.Sets.{AllDiffer}
 use Rattle.digest_mac.specs.Digests.{sha256_digits}
 use Rattle.nquads.specs.Terms.{Blank, Statement}
-use Rattle.nquads.specs.Renaming.{StandsIn}
 use Rattle.nquads.specs.Spelling.{blank_text, spelled}
 use Rattle.nquads.specs.FirstDegree.{AreFirstHashes}
 use Rattle.nquads.specs.declared.quads.TextQuad.{TextQuad}
 use Rattle.nquads.specs.declared.hashes.BlankHash.{BlankHash}
 use Rattle.rdfc_ndegree.specs.declared.table.NodeRow.{NodeRow}
 
--- The texts are those of a call for the node n of the dataset q, with the canonical issuer c and the issuer i.
+-- The texts are those of a call for the node n over the dataset q, with the canonical issuer c and the issuer i.
 pub record IsSpelledCall (q : List Statement) (n : Blank) (c i : List Blank) (quads : List TextQuad) (firsts : List BlankHash) (canonical : List (List ℕ)) (node : List ℕ) (issuer : List (List ℕ)) : Type 0 where
   pub quads_are : quads ≡ map spelled q
   pub hashes : AreFirstHashes sha256_digits q firsts
   pub node_is : node ≡ blank_text n
   pub canonical_is : canonical ≡ map blank_text c
   pub issuer_is : issuer ≡ map blank_text i
-
--- What n-degree hashing is asked: the node stands in the dataset, the issuer has named it, neither issuer
--- names a node twice, and at least this call is open.
-pub record IsRequest (quads : List TextQuad) (firsts : List BlankHash) (canonical : List (List ℕ)) (node : List ℕ) (issuer : List (List ℕ)) (depth : ℕ) : Type 0 where
-  pub dataset : List Statement
-  pub blank : Blank
-  pub named : List Blank
-  pub begun : List Blank
-  pub spelled_call : IsSpelledCall dataset blank named begun quads firsts canonical node issuer
-  pub stands : StandsIn dataset blank
-  pub holds : Contains begun blank
-  pub named_once : AllDiffer named
-  pub begun_once : AllDiffer begun
-  pub open_calls : 1 ≤ depth
+  -- the canonical issuer names no node twice
+  pub named_once : AllDiffer c
 
 -- an issuer after it has named these numbers, in order
 abbrev pub issued : List ℕ → List ℕ → List ℕ

@@ -1,5 +1,5 @@
 //! Hash N-Degree Quads over blank nodes by their texts (RDF Dataset Canonicalization, 4.8).
-ghost use Rattle.std.specs.Prelude.{◌≡◌, ◌<◌, ◌≤◌, ◌++◌, ℕ, [], List, map, All, Err, IfOk, OnOk, length};
+ghost use Rattle.std.specs.Prelude.{◌≡◌, ◌≤◌, ◌++◌, ◌∷◌, ℕ, [], List, map, Contains, Err, IfOk, OnOk};
 ghost use Rattle.std.specs.List.{filter_map};
 ghost use Rattle.digest_mac.specs.Digests.{sha256_digits};
 ghost use Rattle.nquads.specs.Terms.{Blank, Statement};
@@ -10,7 +10,7 @@ ghost use Rattle.rdfc_ndegree.specs.declared.limits.CanonFault.{CanonFault};
 ghost use Rattle.rdfc_ndegree.specs.Datasets.{nodes_of};
 ghost use Rattle.rdfc_ndegree.specs.Answers.{AnswersCall, CallOver, CallDeep};
 ghost use Rattle.rdfc_ndegree.specs.Building.{names_of, number_among};
-ghost use Rattle.rdfc_ndegree.specs.Requests.{IsRequest, IsSpelledCall, issued, name_at};
+ghost use Rattle.rdfc_ndegree.specs.Requests.{IsSpelledCall, issued, name_at};
 
 use crate::building::node_table;
 use crate::canonical::Canonical;
@@ -23,8 +23,9 @@ use std::alloc::Global;
 
 /// The n-degree hash of a blank node (RDF Dataset Canonicalization, 4.8, Hash N-Degree Quads). `firsts`
 /// names each blank node of the dataset once, with its first-degree hash; `canonical` is the canonical
-/// issuer, `issuer` the one with which the call begins, and `depth` the number of calls that are open, this
-/// one counted. Each arrangement that is evaluated adds one to what `meter` has spent.
+/// issuer, which names no node twice, `issuer` the one with which the call begins, and `depth` the number of
+/// calls that are open, this one counted. Each arrangement that is evaluated adds one to what `meter` has
+/// spent. The node and those of the issuers may stand in no statement: then they have no related nodes.
 ///
 /// # Errors
 ///
@@ -40,7 +41,6 @@ pub fn n_degree(
     depth: u64,
     meter: &mut Meter,
 ) -> Result<Path, CanonFault>
-    requires { IsRequest quads.now firsts.now canonical.now.order node.now issuer.order depth }
     ensures limits { meter.new.limits ≡ meter.old.limits }
     ensures kept { meter.old.spent ≤ meter.old.limits.work → IfOk result (λ _. meter.new.spent ≤ meter.old.limits.work) }
     ensures ok { (q : List Statement) (n : Blank) (c i : List Blank)
@@ -65,6 +65,7 @@ pub fn n_degree(
         firsts,
         canonical.order.as_slice(),
         issuer.order.as_slice(),
+        node,
     )?;
     let Some(number) = table.number_of(node.as_str()) else {
         unreachable!()
@@ -81,7 +82,7 @@ pub fn n_degree(
     })
 }
 
-/// The dataset's table, and the issuers over its numbers.
+/// The dataset's table, in which each text of the call has a number, and the issuers over these numbers.
 #[derive(Debug, Drop)]
 struct Numbered {
     table: NodeTable,
@@ -95,14 +96,16 @@ fn number_all(
     firsts: &[BlankHash],
     canonical: &[Text],
     issuer: &[Text],
+    node: &Text,
 ) -> Result<Numbered, Memory>
     ensures table { (q : List Statement) (cs : List Blank) → quads.now ≡ map spelled q
-        → AreFirstHashes sha256_digits q firsts.now → canonical.now ++ issuer.now ≡ map blank_text cs
+        → AreFirstHashes sha256_digits q firsts.now → canonical.now ++ (issuer.now ++ node.now ∷ []) ≡ map blank_text cs
         → IfOk result (λ r. IsTableWith q firsts.now cs r.table) }
+    ensures node { IfOk result (λ r. Contains (names_of r.table) node.now) }
     ensures canonical { IfOk result (λ r. r.canonical ≡ issued [] (filter_map (number_among (names_of r.table)) canonical.now)) }
     ensures issuer { IfOk result (λ r. r.issuer ≡ filter_map (number_among (names_of r.table)) issuer.now) }
 {
-    let others = both(alloc, canonical, issuer)?;
+    let others = all_names(alloc, canonical, issuer, node)?;
     let table = node_table(alloc, quads, firsts, others.as_slice())?;
     let canonical = issuer_over(alloc, &table, canonical)?;
     let issuer = numbers_of(alloc, &table, issuer)?;
@@ -113,13 +116,20 @@ fn number_all(
     })
 }
 
-/// Copies of the first texts, then of the second.
-fn both(alloc: Global, first: &[Text], second: &[Text]) -> Result<Vec<Text>, Memory>
-    ensures { IfOk result (λ all. all.items ≡ first.now ++ second.now) }
+/// Copies of the texts of a call: those of its issuers, and the node's.
+fn all_names(
+    alloc: Global,
+    canonical: &[Text],
+    issuer: &[Text],
+    node: &Text,
+) -> Result<Vec<Text>, Memory>
+    ensures { IfOk result (λ all. all.items ≡ canonical.now ++ (issuer.now ++ node.now ∷ [])) }
 {
     let mut all = Vec::new(alloc);
-    push_copies(&mut all, first)?;
-    push_copies(&mut all, second)?;
+    push_copies(&mut all, canonical)?;
+    push_copies(&mut all, issuer)?;
+    let copy = node.clone()?;
+    all.push(copy)?;
     Ok(all)
 }
 
