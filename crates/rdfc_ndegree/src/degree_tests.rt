@@ -1,15 +1,10 @@
-use crate::{
-    CanonFault, Canonical, Limits, Memory, Meter, NodePath, NodeTable, Sequence, Text,
-    hash_n_degree, node_table,
+use crate::tests::{
+    ALONE, First, INNER, MIDDLE, O, OUTER, P, PAIR, Q, Row, TWIN, TWINS, hashes, meter, quads,
 };
-use nquads::{BlankHash, TextQuad, TextQuads};
+use crate::{
+    CanonFault, Canonical, Memory, Meter, NodePath, NodeTable, Sequence, hash_n_degree, node_table,
+};
 use std::alloc::Global;
-
-/// Subject, predicate, object.
-type Row = (&'static str, &'static str, &'static str);
-
-/// A blank node, and its first-degree hash.
-type First = (&'static str, &'static str);
 
 /// What a call gives, and how many arrangements and open calls it takes.
 #[derive(Clone, Copy)]
@@ -21,59 +16,10 @@ struct Want {
     depth: u64,
 }
 
-const P: &str = "<http://example.com/#p>";
-
-const Q: &str = "<http://example.com/#q>";
-
-const O: &str = "<http://example.com/#o>";
-
-const ALONE: &str = "4aeabe34cf8793771078cec6bf1b65cf99039287f39c407718cde3bdff1a85b3";
-
-const PAIR: &str = "8eb48ba359d654715811840b0b28c37902cb9492b9fa0964851aeba3b8a3787d";
-
-const TWIN: &str = "d0c892f725be8a360ba0bb04d5eec1241812f8ebac11c5c597aa2e0fb695a19b";
-
-const TWINS: &str = "04e8ce99918febcb8c06233b293e33005aaef2efa8ff9f85a7cecaf0f7912d47";
-
-const INNER: &str = "085f600568fdb511a9a1ca3f32890e9fb3a5481ff2542e1c41c6ea9024adee50";
-
-const MIDDLE: &str = "69a82c45ebabc5ac7fe19967183f3ec87f131b48507f08a3fc3669c5bd9796d5";
-
-const OUTER: &str = "836d4f704824bd9ba70e62eed2d78299c48975522e48d7517bd8753dc1021b59";
-
-fn digits(text: &str) -> [u8; 64] {
-    let mut digits = [0u8; 64];
-    for (digit, byte) in digits.iter_mut().zip(text.as_bytes()) {
-        *digit = *byte;
-    }
-    digits
-}
-
 fn table(alloc: Global, rows: &[Row], firsts: &[First]) -> Result<NodeTable, Memory> {
-    let mut quads = Vec::new(alloc);
-    for row in rows {
-        quads.push(TextQuad {
-            subject: Text::from_str(alloc, row.0)?,
-            predicate: Text::from_str(alloc, row.1)?,
-            object: Text::from_str(alloc, row.2)?,
-            graph: None,
-        })?;
-    }
-    let mut hashes = Vec::new(alloc);
-    for first in firsts {
-        hashes.push(BlankHash {
-            blank: Text::from_str(alloc, first.0)?,
-            hash: digits(first.1),
-        })?;
-    }
-    node_table(alloc, &TextQuads::from_vec(quads), hashes.as_slice(), &[])
-}
-
-fn meter(spent: u64, work: u64, depth: u64) -> Meter {
-    Meter {
-        spent,
-        limits: Limits { work, depth },
-    }
+    let quads = quads(alloc, rows)?;
+    let hashes = hashes(alloc, firsts)?;
+    node_table(alloc, &quads, hashes.as_slice(), &[])
 }
 
 /// The call for a node with a new issuer that has named it alone.

@@ -8,6 +8,8 @@
 
 mod arrangements;
 mod blank_nodes;
+#[cfg(test)]
+mod blank_nodes_tests;
 mod building;
 #[cfg(test)]
 mod building_tests;

@@ -1,6 +1,7 @@
 use crate::arrangements::Arrangements;
 use crate::building::node_table;
 use crate::canonical::Canonical;
+use crate::limits::{Limits, Meter};
 use crate::related::related_groups;
 use crate::table::NodeTable;
 use crate::walk::{push_entry, walk_over};
@@ -8,6 +9,71 @@ use base_types::{Memory, Text};
 use digest_mac::sha256_hex;
 use nquads::{BlankHash, TextQuad, TextQuads};
 use std::alloc::Global;
+
+/// Subject, predicate, object.
+pub(crate) type Row = (&'static str, &'static str, &'static str);
+
+/// A blank node, and its first-degree hash.
+pub(crate) type First = (&'static str, &'static str);
+
+pub(crate) const P: &str = "<http://example.com/#p>";
+
+pub(crate) const Q: &str = "<http://example.com/#q>";
+
+pub(crate) const O: &str = "<http://example.com/#o>";
+
+pub(crate) const ALONE: &str = "4aeabe34cf8793771078cec6bf1b65cf99039287f39c407718cde3bdff1a85b3";
+
+pub(crate) const PAIR: &str = "8eb48ba359d654715811840b0b28c37902cb9492b9fa0964851aeba3b8a3787d";
+
+pub(crate) const TWIN: &str = "d0c892f725be8a360ba0bb04d5eec1241812f8ebac11c5c597aa2e0fb695a19b";
+
+pub(crate) const TWINS: &str = "04e8ce99918febcb8c06233b293e33005aaef2efa8ff9f85a7cecaf0f7912d47";
+
+pub(crate) const INNER: &str = "085f600568fdb511a9a1ca3f32890e9fb3a5481ff2542e1c41c6ea9024adee50";
+
+pub(crate) const MIDDLE: &str = "69a82c45ebabc5ac7fe19967183f3ec87f131b48507f08a3fc3669c5bd9796d5";
+
+pub(crate) const OUTER: &str = "836d4f704824bd9ba70e62eed2d78299c48975522e48d7517bd8753dc1021b59";
+
+fn digits(text: &str) -> [u8; 64] {
+    let mut digits = [0u8; 64];
+    for (digit, byte) in digits.iter_mut().zip(text.as_bytes()) {
+        *digit = *byte;
+    }
+    digits
+}
+
+pub(crate) fn quads(alloc: Global, rows: &[Row]) -> Result<TextQuads, Memory> {
+    let mut quads = Vec::new(alloc);
+    for row in rows {
+        quads.push(TextQuad {
+            subject: Text::from_str(alloc, row.0)?,
+            predicate: Text::from_str(alloc, row.1)?,
+            object: Text::from_str(alloc, row.2)?,
+            graph: None,
+        })?;
+    }
+    Ok(TextQuads::from_vec(quads))
+}
+
+pub(crate) fn hashes(alloc: Global, firsts: &[First]) -> Result<Vec<BlankHash>, Memory> {
+    let mut hashes = Vec::new(alloc);
+    for first in firsts {
+        hashes.push(BlankHash {
+            blank: Text::from_str(alloc, first.0)?,
+            hash: digits(first.1),
+        })?;
+    }
+    Ok(hashes)
+}
+
+pub(crate) fn meter(spent: u64, work: u64, depth: u64) -> Meter {
+    Meter {
+        spent,
+        limits: Limits { work, depth },
+    }
+}
 
 const PREDICATE: &str = "<http://example.com/p>";
 
