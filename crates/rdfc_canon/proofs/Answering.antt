@@ -12,6 +12,7 @@ use Rattle.nquads.specs.Texts.{label_in, Names}
 use Rattle.nquads.specs.declared.hashes.BlankHash.{BlankHash}
 use Rattle.nquads.specs.declared.labels.TextLabel.{TextLabel}
 use Rattle.nquads.specs.declared.quads.TextQuad.{TextQuad}
+use Rattle.nquads.proofs.ReadingTerms.{blank_text_one_reading}
 use Rattle.nquads.proofs.ReadingElements.{AllDiffer-map}
 use Rattle.rdfc_ndegree.specs.Evaluations.{IsFaultOf}
 use Rattle.rdfc_ndegree.specs.Issuers.{canonical_id}
@@ -32,7 +33,7 @@ use Rattle.rdfc_canon.specs.Labelling.{all_labels}
 use Rattle.rdfc_canon.specs.Numbering.{AnswersNumbers}
 use Rattle.rdfc_canon.specs.declared.canon.Canon.{Canon}
 use Rattle.rdfc_ndegree.proofs.Steps.{same_fault}
-use Rattle.rdfc_canon.proofs.Labels.{labels-made, labels-blanks, labels-length, numbered, blank_text-once, label_in-is, lines-agree, dataset-named}
+use Rattle.rdfc_canon.proofs.Labels.{labels-made, labels-blanks, labels-length, numbered, label_in-is, lines-agree, dataset-named}
 
 -- ---- the labels of a run
 
@@ -53,9 +54,9 @@ module _ (q : List Statement) (r : Result Blank) (d : IsRun (nodes q) r) where
         each = λ b. (
           (λ k. subst (λ ts. Contains ts (blank_text b)) (sym blanks) (Contains-map blank_text r.issuer b (covers b k))),
           (λ k. let from = Contains-from_map blank_text r.issuer (blank_text b) (subst (λ ts. Contains ts (blank_text b)) blanks k) in
-              subst (StandsIn q) (blank_text-once from.0 b from.2) (only from.0 from.1)),
+              subst (StandsIn q) (blank_text_one_reading from.0 b from.2) (only from.0 from.1)),
         );
-        once = subst AllDiffer (sym blanks) (AllDiffer-map blank_text r.issuer (λ x y k l e. blank_text-once x y e) differs);
+        once = subst AllDiffer (sym blanks) (AllDiffer-map blank_text r.issuer (λ x y k l e. blank_text_one_reading x y e) differs);
         numbered = numbered q [] r.issuer differs refl ∙ ap canonical_ids (sym (labels-length q r.issuer));
       }
 

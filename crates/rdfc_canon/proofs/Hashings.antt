@@ -1,5 +1,5 @@
 -- The calls of a group's members: the start, a step and the end, and how a fault in mid-run is one of all calls.
-use Rattle.std.proofs.Common.{◌≡◌, ℕ, ◌+◌, ◌<◌, ◌≤◌, max, List, [], ◌∷◌, ◌++◌, length, get_or, drop, All, Bool, true, false, ◌==◌, not, cond, refl, sym, ap, ◌∙◌, subst, arith, append-nil, append_assoc, add-one, drop-cons, drop_of_length-le, Option, Some, None, Result, Err, if◌then◌else◌}
+use Rattle.std.proofs.Common.{◌≡◌, ℕ, ◌+◌, ◌<◌, ◌≤◌, max, List, [], ◌∷◌, ◌++◌, length, get_or, drop, All, Bool, true, false, ◌==◌, not, cond, refl, sym, ap, ◌∙◌, subst, arith, append-nil, append_assoc, drop_of_length-le, Option, Some, None, Result, Err, if◌then◌else◌}
 use Rattle.std.specs.List.{AllZip, list_any}
 use Rattle.std.specs.List.Sorted.{IsPermutation, IsSortedByKey}
 use Rattle.std.specs.Option.{is_some}
@@ -25,9 +25,12 @@ use Rattle.rdfc_ndegree.proofs.Exists.{results-exist, lacking-listed}
 use Rattle.rdfc_ndegree.proofs.Loops.{Counting, counting-turn}
 use Rattle.rdfc_ndegree.proofs.Rows.{rows-listed}
 use Rattle.rdfc_ndegree.proofs.Steps.{same_fault}
+use Rattle.rdfc_ndegree.proofs.Tables.{table-has}
+use Rattle.rdfc_ndegree.proofs.Walks.{drop-next}
+use Rattle.rdfc_ndegree.proofs.RunCarry.{results_tie-permuted}
 use Rattle.rdfc_canon.specs.Numbering.{Hashes, Hashing, IsPathOf, AnswersHashes, AnswersRound, HashesOver, HashesDeep, name_each, neighbours_tie}
 use Rattle.rdfc_canon.proofs.Namings.{name_each-take}
-use Rattle.rdfc_canon.proofs.Sorting.{Up-from_sorted, order-from_Up, neighbours-results, results_tie-permuted}
+use Rattle.rdfc_canon.proofs.Sorting.{Up-from_sorted, order-from_Up, neighbours-results}
 
 pub work_of-append : (os ps : List (Outcome ℕ)) → work_of (os ++ ps) ≡ work_of os + work_of ps
 work_of-append [] ps = omega arith
@@ -119,10 +122,6 @@ pub record InHashLoop (rows : List NodeRow) (c members : List ℕ) (paths : List
   pub hashing : Hashing (table_nodes rows) c members paths rest before.spent meter.spent before.limits.depth
 
 module _ (rows : List NodeRow) where
-  table_has : (c : List ℕ) (n : ℕ) → has (table_nodes rows) c n ≡ list_any (λ m. m == n) c
-  unfolding table_nodes
-  table_has c n = refl
-
   none_if : (b : Bool) (k : ℕ) → is_some (if b then Some k else None) ≡ false → b ≡ false
   none_if true k e = e
   none_if false k e = refl
@@ -132,19 +131,16 @@ module _ (rows : List NodeRow) where
   some_if false k e = e
 
   pub number-none : (c : List ℕ) (n k : ℕ) (o : Option ℕ) → o ≡ (if list_any (λ m. m == n) c then Some k else None) → is_some o ≡ false → has (table_nodes rows) c n ≡ false
-  number-none c n k o is e = table_has c n ∙ none_if (list_any (λ m. m == n) c) k (ap is_some (sym is) ∙ e)
+  number-none c n k o is e = table-has rows c n ∙ none_if (list_any (λ m. m == n) c) k (ap is_some (sym is) ∙ e)
 
   pub number-some : (c : List ℕ) (n k : ℕ) (o : Option ℕ) → o ≡ (if list_any (λ m. m == n) c then Some k else None) → is_some o ≡ true → has (table_nodes rows) c n ≡ true
-  number-some c n k o is e = table_has c n ∙ some_if (list_any (λ m. m == n) c) k (ap is_some (sym is) ∙ e)
-
-  next_item : (xs : List ℕ) (k x : ℕ) → k < length xs → x ≡ get_or xs k 0 → drop k xs ≡ x ∷ drop (k + 1) xs
-  next_item xs k x lt is = rw add-one (drop-cons xs k 0 lt) ∙ ap (λ y. y ∷ drop (k + 1) xs) (sym is)
+  number-some c n k o is e = table-has rows c n ∙ some_if (list_any (λ m. m == n) c) k (ap is_some (sym is) ∙ e)
 
   pub hash-skip : (c ms : List ℕ) (k m : ℕ) {paths : List NodePath} {before meter : Meter} → k < length ms → m ≡ get_or ms k 0 → has (table_nodes rows) c m ≡ true
       → InHashLoop rows c ms paths (drop k ms) before meter → InHashLoop rows c ms paths (drop (k + 1) ms) before meter
   hash-skip c ms k m {paths = paths} {before = before} {meter = meter} lt is e w = record {
     counting = w.counting;
-    hashing = hashing-skip (table_nodes rows) c e (subst (λ ns. Hashing (table_nodes rows) c ms paths ns before.spent meter.spent before.limits.depth) (next_item ms k m lt is) w.hashing);
+    hashing = hashing-skip (table_nodes rows) c e (subst (λ ns. Hashing (table_nodes rows) c ms paths ns before.spent meter.spent before.limits.depth) (drop-next ms k m lt is) w.hashing);
   }
 
   pub hash-turn : (c ms : List ℕ) (k m : ℕ) {paths : List NodePath} {before meter : Meter} (path : NodePath) (next : Meter) → k < length ms → m ≡ get_or ms k 0 → has (table_nodes rows) c m ≡ false
@@ -156,7 +152,7 @@ module _ (rows : List NodeRow) where
     counting = counting-turn w.counting same kept;
     hashing =
         hashing-turn (table_nodes rows) c path next.spent e
-        (subst (λ ns. Hashing (table_nodes rows) c ms paths ns before.spent meter.spent before.limits.depth) (next_item ms k m lt is) w.hashing)
+        (subst (λ ns. Hashing (table_nodes rows) c ms paths ns before.spent meter.spent before.limits.depth) (drop-next ms k m lt is) w.hashing)
         (subst (λ (l : Limits). AnswersCall (table_nodes rows) c m (m ∷ []) path.hash path.issuer path.tie meter.spent next.spent 1 l.depth) w.counting.limits a);
   }
 
@@ -165,7 +161,7 @@ module _ (rows : List NodeRow) where
       → IsFaultOf meter.limits (CallOver (table_nodes rows) c m (m ∷ []) meter.spent) (CallDeep (table_nodes rows) c m (m ∷ []) 1) e
       → IsFaultOf before.limits (HashesOver (table_nodes rows) c (lacking (table_nodes rows) c ms) before.spent) (HashesDeep (table_nodes rows) c (lacking (table_nodes rows) c ms)) e
   hash-fault laws c ms k m {paths = paths} {before = before} {meter = meter} lt is new all w e h =
-      let here = subst (λ ns. Hashing (table_nodes rows) c ms paths ns before.spent meter.spent before.limits.depth) (next_item ms k m lt is) w.hashing in
+      let here = subst (λ ns. Hashing (table_nodes rows) c ms paths ns before.spent meter.spent before.limits.depth) (drop-next ms k m lt is) w.hashing in
       let listed = rows-listed rows (drop (k + 1) ms) (All-drop (λ x. x < length rows) (k + 1) ms all) in
       same_fault w.counting.limits (λ n d. hashing-over (table_nodes rows) c laws new here listed n d) (λ n d. hashing-deep (table_nodes rows) c laws new here listed n d) e h
 

@@ -1,10 +1,11 @@
 -- The labels that a canonical issuer gives: each found by its blank node's text, and all of them in order.
-use Rattle.std.proofs.Common.{◌≡◌, ℕ, zero, suc, ◌<◌, ◌==◌, List, [], ◌∷◌, ◌++◌, map, length, All, Contains, Bool, true, false, cond, bytes_eq, Option, Some, None, slice_get, codes, decimal, refl, sym, ap, ◌∙◌, subst, ⊎_elim, arith, append-nil, append_assoc}
+use Rattle.std.proofs.Common.{◌≡◌, ℕ, suc, ◌<◌, ◌==◌, List, [], ◌∷◌, ◌++◌, map, length, All, Contains, Bool, true, false, cond, bytes_eq, Option, Some, None, slice_get, codes, decimal, refl, sym, ap, ◌∙◌, subst, ⊎_elim, arith, append-nil, append_assoc}
 use Rattle.std.specs.Option.{is_some, option_map, unwrap_or, IfSome}
-use Rattle.std.specs.List.{AllByRecursion, AllZip}
-use Rattle.std.proofs.lemmas.Bool.{false≢true, cases_order}
+use Rattle.std.specs.List.{AllByRecursion}
+use Rattle.std.proofs.lemmas.Bool.{false≢true}
 use Rattle.std.proofs.lemmas.Bool.Decides.{Decides-eqb}
-use Rattle.std.proofs.lemmas.List.{map-append, length-map}
+use Rattle.std.proofs.lemmas.Option.{slice_get-get_or}
+use Rattle.std.proofs.lemmas.List.{map-append, length-append, length-map}
 use Rattle.std.proofs.lemmas.List.Elements.{Contains-append_left, Contains-append_right}
 use Rattle.std.proofs.lemmas.List.Sorted.{IsPermutation-middle}
 use Rattle.base_types.specs.Order.{rising}
@@ -12,7 +13,7 @@ use Rattle.base_types.specs.Sets.{AllDiffer}
 use Rattle.base_types.proofs.Lists.{Contains-here, Contains-there, Contains-cons_cases, Contains-nil, Contains-from_map, AllByRecursion-contains}
 use Rattle.digest_mac.specs.Digests.{sha256_digits}
 use Rattle.nquads.specs.Terms.{Blank, Term, iri, literal, blank, Statement}
-use Rattle.nquads.specs.Renaming.{same_blank, StandsIn, blanks_of, blanks_of_term, blanks_of_graph}
+use Rattle.nquads.specs.Renaming.{StandsIn, blanks_of, blanks_of_term, blanks_of_graph}
 use Rattle.nquads.specs.Spelling.{blank_text, spelling, spelled}
 use Rattle.nquads.specs.Lines.{line, canonical_lines}
 use Rattle.nquads.specs.Texts.{label, find_label, label_in, IsNamed, Names}
@@ -26,10 +27,11 @@ use Rattle.rdfc_ndegree.specs.TableOf.{IsRowOf, IsTableOf}
 use Rattle.rdfc_ndegree.specs.declared.table.NodeRow.{NodeRow}
 use Rattle.rdfc_ndegree.proofs.AgreeBasics.{false_unless}
 use Rattle.rdfc_ndegree.proofs.Basics.{has-from_contains, Contains-from_has, number-append, number-new}
-use Rattle.rdfc_ndegree.proofs.CarryBasics.{map-map, map-agree, Each-from_contains, Each-weaker, AllDiffer-permutation}
+use Rattle.rdfc_ndegree.proofs.CarryBasics.{map-map, map-agree, Each-append, Each-from_contains, Each-weaker, AllDiffer-permutation}
 use Rattle.rdfc_ndegree.proofs.Lawful.{nodes-lawful}
-use Rattle.rdfc_ndegree.proofs.Renamed.{line-agree}
-use Rattle.rdfc_ndegree.proofs.TableCarry.{at, no_blank}
+use Rattle.rdfc_ndegree.proofs.Renamed.{line-agree, InPlace, in_place}
+use Rattle.rdfc_ndegree.proofs.TableCarry.{at, no_blank, at-injective, table-length}
+use Rattle.rdfc_ndegree.proofs.TableLemmas.{zip-find}
 use Rattle.rdfc_canon.specs.Canon.{nodes, labels_of, canonical_ids}
 use Rattle.rdfc_canon.specs.Labelling.{with_label, all_labels}
 
@@ -37,16 +39,6 @@ use Rattle.rdfc_canon.specs.Labelling.{with_label, all_labels}
 
 text-once : (x b : Blank) → bytes_eq (blank_text x) (blank_text b) ≡ true → x ≡ b
 text-once x b e = sym (same_blank-true b x (sym (same_text b x) ∙ e))
-
-pub blank_text-once : (x b : Blank) → blank_text x ≡ blank_text b → x ≡ b
-blank_text-once x b e = text-once x b (same_text b x ∙ subst (λ (z : Blank). same_blank b z ≡ true) (sym (text_once_back e)) (same_blank-itself b))
-  where
-    text_once_back : blank_text x ≡ blank_text b → x ≡ b
-    text_once_back f = text-once x b (ap (λ t. bytes_eq t (blank_text b)) f ∙ same_text b b ∙ same_blank-itself b)
-
--- a blank node stands in a list without repeats at one place
-at-once : (bs : List Blank) (x y : ℕ) → AllDiffer bs → x < length bs → y < length bs → at bs x ≡ at bs y → x ≡ y
-at-once bs x y a p q e = ⊎_elim (λ k. k) (⊎_elim (λ l. absurd (a x y no_blank l q e)) (λ l. absurd (a y x no_blank l p (sym e)))) (cases_order x y)
 
 -- ---- labels by a function
 
@@ -110,16 +102,13 @@ module _ (q : List Statement) where
 
   numbered-next : (d : List Blank) (b : Blank) → (Contains d b → ⊥) → texts d ≡ canonical_ids (length d) → texts (d ++ b ∷ []) ≡ canonical_ids (length (d ++ b ∷ []))
   numbered-next d b new e =
-      let long : length (d ++ b ∷ []) ≡ suc (length d) = length-push d b in
+      let whole = length-append d (b ∷ []) in
+      let long : length (d ++ b ∷ []) ≡ suc (length d) = omega arith in
       ap (map (λ (l : TextLabel). l.text)) (labels-push d b new)
       ∙ map-append (λ (l : TextLabel). l.text) (labels_of q d) (label (blank_text b) (codes "c14n" ++ decimal (length d)) ∷ [])
       ∙ ap (λ ts. ts ++ (codes "c14n" ++ decimal (length d)) ∷ []) e
       ∙ sym (map-append (λ k. codes "c14n" ++ decimal k) (numbers_below (length d)) (length d ∷ []))
       ∙ ap canonical_ids (sym long)
-    where
-      length-push : (xs : List Blank) (x : Blank) → length (xs ++ x ∷ []) ≡ suc (length xs)
-      length-push [] x = refl
-      length-push (y ∷ ys) x = ap suc (length-push ys x)
 
   pub numbered : (d rest : List Blank) → AllDiffer (d ++ rest) → texts d ≡ canonical_ids (length d) → texts (d ++ rest) ≡ canonical_ids (length (d ++ rest))
   numbered d [] a e = subst (λ xs. texts xs ≡ canonical_ids (length xs)) (sym (append-nil d)) e
@@ -129,46 +118,27 @@ module _ (q : List Statement) where
 
   -- ---- what the program makes, number by number
 
-  record RowAt (rows : List NodeRow) (n : ℕ) (b : Blank) : Type 0 where
-    pub row : NodeRow
-    pub is : slice_get rows n ≡ Some row
-    pub named : row.blank ≡ blank_text b
-
-  row-at : (bs xs : List Blank) (rows : List NodeRow) (n : ℕ) → AllZip (IsRowOf q bs) xs rows → n < length rows → RowAt rows n (at xs n)
-  row-at bs [] [] n z lt = absurd (omega arith)
-  row-at bs [] (r ∷ rs) n z lt = absurd z
-  row-at bs (x ∷ xs) [] n z lt = absurd z
-  row-at bs (x ∷ xs) (r ∷ rs) zero z lt = record { row = r; is = refl; named = z.0.name }
-  row-at bs (x ∷ xs) (r ∷ rs) (suc n) z lt = let found = row-at bs xs rs n z.1 (omega arith) in record { row = found.row; is = found.is; named = found.named }
-
-  as_long : (bs xs : List Blank) (rows : List NodeRow) → AllZip (IsRowOf q bs) xs rows → length xs ≡ length rows
-  as_long bs [] [] z = refl
-  as_long bs [] (r ∷ rs) z = absurd z
-  as_long bs (x ∷ xs) [] z = absurd z
-  as_long bs (x ∷ xs) (r ∷ rs) z = ap suc (as_long bs xs rs z.1)
-
   module _ (bs : List Blank) (rows : List NodeRow) (t : IsTableOf q bs rows) where
     apart : (done : List ℕ) (n : ℕ) → AllByRecursion (λ k. k < length rows) done → n < length rows → (Contains done n → ⊥) → Contains (map (at bs) done) (at bs n) → ⊥
     apart done n all lt new k =
         let found = Contains-from_map (at bs) done (at bs n) k in
         let below : found.0 < length rows = AllByRecursion-contains (λ x. x < length rows) done found.0 all found.1 in
-        let long : length bs ≡ length rows = as_long bs bs rows t.each in
-        new (subst (Contains done) (at-once bs found.0 n t.differ (omega arith) (omega arith) found.2) found.1)
+        let long = table-length q bs rows t in
+        new (subst (Contains done) (at-injective bs found.0 n t.differ (omega arith) (omega arith) found.2) found.1)
 
     label-next : (done : List ℕ) (n : ℕ) → (Contains (map (at bs) done) (at bs n) → ⊥) → n < length rows → with_label (labels_of q (map (at bs) done)) (slice_get rows n) ≡ labels_of q (map (at bs) (done ++ n ∷ []))
     label-next done n new lt =
         let d = map (at bs) done in
-        let r = row-at bs bs rows n t.each lt in
-        let none : find_label (labels_of q d) r.row.blank ≡ None = ap (find_label (labels_of q d)) r.named ∙ labels-new d (at bs n) new in
-        ap (with_label (labels_of q d)) r.is
-        ∙ ap (λ o. cond (is_some o) (labels_of q d) (labels_of q d ++ label r.row.blank (codes "c14n" ++ decimal (length (labels_of q d))) ∷ [])) none
-        ∙ (λ i. labels_of q d ++ label (r.named i) (codes "c14n" ++ decimal (labels-length d i)) ∷ [])
+        let long = table-length q bs rows t in
+        let found = zip-find (IsRowOf q bs) bs rows n (at bs n) t.each (slice_get-get_or bs n no_blank (omega arith)) in
+        let row = found.0 in
+        let named = found.2.name in
+        let none : find_label (labels_of q d) row.blank ≡ None = ap (find_label (labels_of q d)) named ∙ labels-new d (at bs n) new in
+        ap (with_label (labels_of q d)) found.1
+        ∙ ap (λ o. cond (is_some o) (labels_of q d) (labels_of q d ++ label row.blank (codes "c14n" ++ decimal (length (labels_of q d))) ∷ [])) none
+        ∙ (λ i. labels_of q d ++ label (named i) (codes "c14n" ++ decimal (labels-length d i)) ∷ [])
         ∙ sym (labels-push d (at bs n) new)
         ∙ ap (labels_of q) (sym (map-append (at bs) done (n ∷ [])))
-
-    each-push : (done : List ℕ) (n : ℕ) → AllByRecursion (λ k. k < length rows) done → n < length rows → AllByRecursion (λ k. k < length rows) (done ++ n ∷ [])
-    each-push [] n all lt = (lt, tt)
-    each-push (m ∷ ms) n all lt = (all.0, each-push ms n all.1 lt)
 
     pub labels-made : (done rest : List ℕ) → AllDiffer (done ++ rest) → AllByRecursion (λ k. k < length rows) done → AllByRecursion (λ k. k < length rows) rest
         → all_labels rows (labels_of q (map (at bs) done)) rest ≡ labels_of q (map (at bs) (done ++ rest))
@@ -176,7 +146,7 @@ module _ (q : List Statement) where
     labels-made done (n ∷ ns) a all later =
         let moved : (done ++ n ∷ []) ++ ns ≡ done ++ n ∷ ns = append_assoc done (n ∷ []) ns in
         ap (λ ls. all_labels rows ls ns) (label-next done n (apart done n all later.0 (front done n ns a)) later.0)
-        ∙ labels-made (done ++ n ∷ []) ns (subst AllDiffer (sym moved) a) (each-push done n all later.0) later.1
+        ∙ labels-made (done ++ n ∷ []) ns (subst AllDiffer (sym moved) a) (Each-append (λ k. k < length rows) done (n ∷ []) all (later.0, tt)) later.1
         ∙ ap (λ ms. labels_of q (map (at bs) ms)) moved
 
   -- ---- lines under these labels
@@ -184,14 +154,8 @@ module _ (q : List Statement) where
   pub label_in-is : (d : List Blank) (b : Blank) → Contains d b → label_in (labels_of q d) b ≡ canonical_id (nodes q) d b
   label_in-is d b k = ap (λ o. unwrap_or o []) (find-some (canonical_id (nodes q) d) d b k)
 
-  abbrev InPlace : Statement → Type 0
-  InPlace s = AllByRecursion (StandsIn q) (blanks_of s)
-
-  in-place : AllByRecursion InPlace q
-  in-place = Each-from_contains InPlace q (λ s m. Each-from_contains (StandsIn q) (blanks_of s) (λ b n. to_blanks_in q s b m n))
-
   pub lines-agree : (f g : Blank → List ℕ) → ((b : Blank) → StandsIn q b → f b ≡ g b) → canonical_lines f q ≡ canonical_lines g q
-  lines-agree f g h = ap rising (map-agree InPlace (line f) (line g) (λ s p. line-agree f g s (Each-weaker (StandsIn q) (λ b. f b ≡ g b) h (blanks_of s) p)) q in-place)
+  lines-agree f g h = ap rising (map-agree (InPlace q) (line f) (line g) (λ s p. line-agree f g s (Each-weaker (StandsIn q) (λ b. f b ≡ g b) h (blanks_of s) p)) q (in_place q))
 
   -- ---- each blank node is named
 

@@ -1,7 +1,6 @@
 -- Naming numbers in the canonical issuer is what the definition's issuer does.
-use Rattle.std.proofs.Common.{◌≡◌, ℕ, ◌==◌, List, [], ◌∷◌, ◌++◌, length, Contains, false, cond, refl, sym, ap, ◌∙◌, subst, arith, append-nil, append_assoc}
+use Rattle.std.proofs.Common.{◌≡◌, ℕ, ◌==◌, List, [], ◌∷◌, ◌++◌, length, false, cond, refl, sym, ap, ◌∙◌, subst, arith, append-nil, append_assoc}
 use Rattle.std.specs.List.{AllZip, list_any}
-use Rattle.std.proofs.lemmas.Bool.Decides.{Decides-eqb}
 use Rattle.std.proofs.lemmas.List.Elements.{Contains-append_left}
 use Rattle.std.proofs.lemmas.List.Sorted.{IsPermutation-middle}
 use Rattle.base_types.specs.Sets.{AllDiffer}
@@ -12,9 +11,9 @@ use Rattle.rdfc_ndegree.specs.Run.{alone, if_alone, first_groups, take_issuer, t
 use Rattle.rdfc_ndegree.specs.Table.{table_nodes}
 use Rattle.rdfc_ndegree.specs.declared.path.NodePath.{NodePath}
 use Rattle.rdfc_ndegree.specs.declared.table.NodeRow.{NodeRow}
-use Rattle.rdfc_ndegree.proofs.AgreeBasics.{list_any-none, false_unless}
 use Rattle.rdfc_ndegree.proofs.CarryBasics.{AllDiffer-permutation}
 use Rattle.rdfc_ndegree.proofs.Labels.{alone-differ}
+use Rattle.rdfc_ndegree.proofs.Tables.{absent-any}
 use Rattle.rdfc_canon.specs.Numbering.{name_one, name_all, name_each, IsPathOf}
 
 module _ (rows : List NodeRow) where
@@ -35,16 +34,12 @@ pub name_all-append : (c xs ys : List ℕ) → name_all c (xs ++ ys) ≡ name_al
 name_all-append c [] ys = refl
 name_all-append c (x ∷ xs) ys = name_all-append (name_one c x) xs ys
 
--- a number that is not named yet comes to the end
-not-named : (c : List ℕ) (n : ℕ) → (Contains c n → ⊥) → list_any (λ m. m == n) c ≡ false
-not-named c n new = list_any-none (λ m. m == n) c (λ m k. false_unless (m == n) (λ e. new (subst (Contains c) ((Decides-eqb m n).0 e) k)))
-
 -- numbers that differ are named as they come
 pub name_all-differ : (c ns : List ℕ) → AllDiffer (c ++ ns) → name_all c ns ≡ c ++ ns
 name_all-differ c [] a = sym (append-nil c)
 name_all-differ c (n ∷ ns) a =
     let front : AllDiffer (n ∷ (c ++ ns)) = AllDiffer-permutation (c ++ n ∷ ns) (n ∷ (c ++ ns)) (IsPermutation-middle c n ns) a in
-    let none : list_any (λ m. m == n) c ≡ false = not-named c n (λ k. AllDiffer-head n (c ++ ns) front (Contains-append_left c ns n k)) in
+    let none : list_any (λ m. m == n) c ≡ false = absent-any c n (λ k. AllDiffer-head n (c ++ ns) front (Contains-append_left c ns n k)) in
     let moved : (c ++ n ∷ []) ++ ns ≡ c ++ n ∷ ns = append_assoc c (n ∷ []) ns in
     ap (λ b. name_all (cond b c (c ++ n ∷ [])) ns) none ∙ name_all-differ (c ++ n ∷ []) ns (subst AllDiffer (sym moved) a) ∙ moved
 

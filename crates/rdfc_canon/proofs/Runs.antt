@@ -1,5 +1,6 @@
 -- The groups of a run: the start, a step and the end, and how a fault in mid-run is one of a whole run.
-use Rattle.std.proofs.Common.{◌≡◌, ℕ, ◌+◌, ◌<◌, ◌≤◌, max, List, [], ◌∷◌, map, length, get_or, drop, All, Contains, Bool, true, false, ◌||◌, refl, sym, ap, ◌∙◌, subst, arith, add-one, drop-cons, drop_of_length-le}
+use Rattle.std.proofs.Common.{◌≡◌, ℕ, ◌+◌, ◌<◌, ◌≤◌, max, List, [], ◌∷◌, map, length, get_or, drop, All, Contains, Bool, false, ◌||◌, refl, sym, ap, ◌∙◌, subst, arith, drop_of_length-le}
+use Rattle.std.proofs.Math.Bool.{or-false, or_assoc}
 use Rattle.std.proofs.lemmas.List.Elements.{All-drop}
 use Rattle.rdfc_ndegree.specs.Nodes.{Nodes, AreNodes}
 use Rattle.rdfc_ndegree.specs.Groups.{Group}
@@ -15,19 +16,11 @@ use Rattle.rdfc_ndegree.specs.declared.limits.Meter.{Meter}
 use Rattle.rdfc_ndegree.specs.declared.related.NodeGroup.{NodeGroup}
 use Rattle.rdfc_ndegree.specs.declared.table.NodeRow.{NodeRow}
 use Rattle.rdfc_ndegree.proofs.Exists.{in_hash_order, rounds-exist}
-use Rattle.rdfc_ndegree.proofs.Loops.{Counting, counting-start, counting-turn}
+use Rattle.rdfc_ndegree.proofs.Loops.{next_item, Counting, counting-start, counting-turn}
 use Rattle.rdfc_ndegree.proofs.Rows.{groups-rows}
 use Rattle.rdfc_ndegree.proofs.Steps.{same_fault}
 use Rattle.rdfc_canon.specs.Numbering.{AnswersRound, AnswersNumbers, HashesOver, HashesDeep, Running, adding, name_all}
 use Rattle.rdfc_canon.proofs.Namings.{alone-named}
-
-or_none : (b : Bool) → b ≡ (b || false)
-or_none true = refl
-or_none false = refl
-
-or_assoc : (a b d : Bool) → (a || (b || d)) ≡ ((a || b) || d)
-or_assoc true b d = refl
-or_assoc false b d = refl
 
 module _ {B : Type 0} (v : Nodes B) where
   adding-none : (r : Result B) → r ≡ adding false 0 0 r
@@ -38,7 +31,7 @@ module _ {B : Type 0} (v : Nodes B) where
 
   adding-more : (tie tied : Bool) (spent next deep : ℕ) (os : List (Outcome B)) (r : Result B) → tied ≡ results_tie os → next ≡ spent + work_of os → adding tie spent deep (run_more os r) ≡ adding (tie || tied) next (max deep (depth_of os)) r
   adding-more tie tied spent next deep os r is new =
-      let t = or_assoc tie (results_tie os) r.tie ∙ ap (λ b. (tie || b) || r.tie) (sym is) in
+      let t = sym (or_assoc tie (results_tie os) r.tie) ∙ ap (λ b. (tie || b) || r.tie) (sym is) in
       let w : spent + (work_of os + r.work) ≡ next + r.work = omega arith in
       let d : max deep (max (depth_of os) r.depth) ≡ max (max deep (depth_of os)) r.depth = omega arith in
       λ i. record { issuer = r.issuer; tie = t i; work = w i; depth = d i }
@@ -69,7 +62,7 @@ module _ {B : Type 0} (v : Nodes B) where
         run = adding tie spent w.deep (run_end c);
         is_run = w.goes_on (run_end c) refl;
         issuer_is = refl;
-        tie_is = or_none tie;
+        tie_is = sym (or-false tie);
         work_is = omega arith;
         within_work = omega arith;
         within_depth = omega arith;
@@ -108,9 +101,6 @@ pub record InRunLoop (rows : List NodeRow) (c : List ℕ) (tie : Bool) (rest : L
   pub running : Running (table_nodes rows) c tie (map group_in rest) meter.spent before.limits.depth
 
 module _ (rows : List NodeRow) where
-  next_item : {X : Type 0} (xs : List X) (k : ℕ) (x : X) → k < length xs → x ≡ get_or xs k x → drop k xs ≡ x ∷ drop (k + 1) xs
-  next_item xs k x lt is = rw add-one (drop-cons xs k x lt) ∙ ap (λ y. y ∷ drop (k + 1) xs) (sym is)
-
   pub run-start : (c : List ℕ) (gs : List NodeGroup) (meter : Meter) → meter.spent ≡ 0 → c ≡ name_all [] (alone (map group_in gs)) → map group_in gs ≡ first_groups (table_nodes rows) → InRunLoop rows c false gs meter meter
   run-start c gs meter none begun all = record {
     counting = counting-start meter;

@@ -1,30 +1,25 @@
 -- Results in hash order, and the ties that neighbours show.
-use Rattle.std.proofs.Common.{◌≡◌, ℕ, suc, ◌+◌, List, [], ◌∷◌, get_or, All, Bool, true, false, ◌||◌, bytes_eq, refl, sym, ap, ap₂, ◌∙◌, subst, arith}
+use Rattle.std.proofs.Common.{◌≡◌, ℕ, suc, ◌+◌, List, [], ◌∷◌, get_or, All, Bool, true, false, ◌||◌, bytes_eq, refl, sym, ap, ◌∙◌, subst, arith}
 use Rattle.std.specs.List.{AllByRecursion, AllZip, list_any}
-use Rattle.std.specs.List.Sorted.{IsPermutation, IsSortedByKey}
+use Rattle.std.specs.List.Sorted.{IsSortedByKey}
 use Rattle.std.specs.Cmp.Lexicographic.{nat_list_cmp_total}
-use Rattle.std.specs.Ordering.{is_le, is_lt, ordering_reverse}
-use Rattle.std.proofs.lemmas.Bool.{false≢true}
+use Rattle.std.specs.Ordering.{is_lt}
+use Rattle.std.proofs.lemmas.Bool.{false≢true, or_from}
 use Rattle.std.proofs.lemmas.List.Elements.{All-from_recursion, recursion_from_All}
-use Rattle.std.proofs.lemmas.List.Sorted.{sorted_far, ranks_by, IsPermutation-refl, IsPermutation-trans, IsPermutation-cons, IsPermutation-middle, list_any-IsPermutation}
+use Rattle.std.proofs.lemmas.List.Sorted.{sorted_far, ranks_by}
 use Rattle.base_types.specs.Order.{is_upto}
-use Rattle.base_types.proofs.Orders.{text_cmp, is_upto-cmp, by_cmp, is_upto-antisymmetric}
+use Rattle.base_types.proofs.Orders.{text_cmp, is_upto-antisymmetric}
 use Rattle.rdfc_ndegree.specs.NDegree.{Outcome}
 use Rattle.rdfc_ndegree.specs.Run.{InHashOrder, results_tie}
 use Rattle.rdfc_ndegree.specs.declared.path.NodePath.{NodePath}
-use Rattle.rdfc_ndegree.proofs.AgreeBasics.{bytes_eq-true, bytes_eq-same, false_unless, or_false, same_tests}
-use Rattle.rdfc_ndegree.proofs.CarryBasics.{through_permutation}
+use Rattle.rdfc_ndegree.proofs.AgreeBasics.{bytes_eq-true, bytes_eq-same, false_unless}
+use Rattle.rdfc_ndegree.proofs.Grouping.{upto_if}
 use Rattle.rdfc_canon.specs.Numbering.{IsPathOf, next_has, neighbours_tie}
 
 -- each path's hash is up to those after it
 abbrev pub Up : List NodePath → Type 0
 Up [] = Unit {0}
 Up (p ∷ ps) = AllByRecursion (λ (q : NodePath). is_upto p.hash q.hash ≡ true) ps × Up ps
-
-upto_if : (t u : List ℕ) → is_lt (text_cmp u t) ≡ false → is_upto t u ≡ true
-upto_if t u e =
-    let turned = nat_list_cmp_total.antisymm t u in let above = is_upto-cmp t u in
-    by_cmp (is_upto t u ≡ true) u t (λ f. let a = ap is_lt f in absurd (cc)) (λ f. let a = ap ordering_reverse f in let b = ap is_le (turned ∙ a) in cc) (λ f. let a = ap ordering_reverse f in let b = ap is_le (turned ∙ a) in cc)
 
 each_upto : (p : NodePath) (ps : List NodePath) → AllByRecursion (λ (q : NodePath). is_lt (text_cmp q.hash p.hash) ≡ false) ps → AllByRecursion (λ (q : NodePath). is_upto p.hash q.hash ≡ true) ps
 each_upto p [] all = tt
@@ -57,7 +52,7 @@ none_later h l apart upto [] [] z all = refl
 none_later h l apart upto [] (o ∷ os) z all = absurd z
 none_later h l apart upto (p ∷ ps) [] z all = absurd z
 none_later h l apart upto (p ∷ ps) (o ∷ os) z all =
-    or_false (bytes_eq o.hash h) (list_any (λ (q : Outcome ℕ). bytes_eq q.hash h) os)
+    or_from (bytes_eq o.hash h) (list_any (λ (q : Outcome ℕ). bytes_eq q.hash h) os)
     (false_unless (bytes_eq o.hash h) (λ e.
     let back : is_upto l h ≡ true = subst (λ t. is_upto l t ≡ true) (z.0.hash ∙ bytes_eq-true o.hash h e) all.0 in
     false≢true (sym apart ∙ bytes_eq-same l h (is_upto-antisymmetric l h back upto))))
@@ -74,7 +69,7 @@ next_is h (p ∷ ps) (o ∷ os) z all up = go (bytes_eq p.hash h) refl
 
     go : (b : Bool) → bytes_eq p.hash h ≡ b → bytes_eq p.hash h ≡ (bytes_eq o.hash h || list_any (λ (q : Outcome ℕ). bytes_eq q.hash h) os)
     go true e = e ∙ ap (λ b. b || list_any (λ (q : Outcome ℕ). bytes_eq q.hash h) os) (sym e ∙ same)
-    go false e = e ∙ sym (or_false (bytes_eq o.hash h) (list_any (λ (q : Outcome ℕ). bytes_eq q.hash h) os) (sym same ∙ e) (none_later h p.hash e all.0 ps os z.1 up.0))
+    go false e = e ∙ sym (or_from (bytes_eq o.hash h) (list_any (λ (q : Outcome ℕ). bytes_eq q.hash h) os) (sym same ∙ e) (none_later h p.hash e all.0 ps os z.1 up.0))
 
 pub neighbours-results : (ps : List NodePath) (os : List (Outcome ℕ)) → AllZip IsPathOf ps os → Up ps → neighbours_tie ps ≡ results_tie os
 neighbours-results [] [] z up = refl
@@ -84,49 +79,3 @@ neighbours-results (p ∷ ps) (o ∷ os) z up =
     let later : next_has p.hash ps ≡ list_any (λ (q : Outcome ℕ). bytes_eq q.hash o.hash) os = next_is p.hash ps os z.1 up.0 up.1 ∙ ap (λ h. list_any (λ (q : Outcome ℕ). bytes_eq q.hash h) os) z.0.hash in
     let rest = neighbours-results ps os z.1 up.1 in
     λ i. z.0.tie i || later i || rest i
-
--- ---- the tie is the same in any order
-
-turned : (x y : List ℕ) → bytes_eq x y ≡ bytes_eq y x
-turned x y = same_tests (bytes_eq x y) (bytes_eq y x) (λ e. false_unless (bytes_eq y x) (λ f. false≢true (sym e ∙ bytes_eq-same x y (sym (bytes_eq-true y x f))))) (λ e. false_unless (bytes_eq x y) (λ f. false≢true (sym e ∙ bytes_eq-same y x (sym (bytes_eq-true x y f)))))
-
-or_exchanged : (a b x l m r : Bool) → a || (x || l) || (b || m || r) ≡ b || (x || m) || (a || l || r)
-or_exchanged true true true l m r = refl
-or_exchanged true true false l m r = refl
-or_exchanged true false true l m r = refl
-or_exchanged true false false l true r = refl
-or_exchanged true false false l false r = refl
-or_exchanged false true true l m r = refl
-or_exchanged false true false true m r = refl
-or_exchanged false true false false m r = refl
-or_exchanged false false true l m r = refl
-or_exchanged false false false true true r = refl
-or_exchanged false false false true false r = refl
-or_exchanged false false false false m r = refl
-
-record SameTie (os ps : List (Outcome ℕ)) : Type 0 where
-  pub order : IsPermutation os ps
-  pub tie : results_tie os ≡ results_tie ps
-
-under : (o : Outcome ℕ) (os ps : List (Outcome ℕ)) → SameTie os ps → SameTie (o ∷ os) (o ∷ ps)
-under o os ps r = record {
-  order = IsPermutation-cons o os ps r.order;
-  tie = ap₂ (λ b c. o.tie || b || c) (list_any-IsPermutation (λ (p : Outcome ℕ). bytes_eq p.hash o.hash) os ps r.order) r.tie;
-}
-
-exchange : (o p : Outcome ℕ) (os : List (Outcome ℕ)) → SameTie (o ∷ (p ∷ os)) (p ∷ (o ∷ os))
-exchange o p os = record {
-  order = IsPermutation-middle (o ∷ []) p os;
-  tie =
-      ap (λ b. o.tie || (b || list_any (λ (q : Outcome ℕ). bytes_eq q.hash o.hash) os) || results_tie (p ∷ os)) (turned p.hash o.hash)
-      ∙ or_exchanged o.tie p.tie (bytes_eq o.hash p.hash) (list_any (λ (q : Outcome ℕ). bytes_eq q.hash o.hash) os) (list_any (λ (q : Outcome ℕ). bytes_eq q.hash p.hash) os) (results_tie os);
-}
-
-same_tie : (os ps : List (Outcome ℕ)) → IsPermutation os ps → SameTie os ps
-same_tie =
-    through_permutation SameTie (λ os. record { order = IsPermutation-refl os; tie = refl })
-    (λ os ps qs a b. record { order = IsPermutation-trans os ps qs a.order b.order; tie = a.tie ∙ b.tie })
-    under exchange
-
-pub results_tie-permuted : (os ps : List (Outcome ℕ)) → IsPermutation os ps → results_tie os ≡ results_tie ps
-results_tie-permuted os ps moved = (same_tie os ps moved).tie

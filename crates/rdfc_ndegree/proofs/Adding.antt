@@ -1,7 +1,7 @@
 -- A node more in the groups, as the program adds it.
 use Rattle.std.proofs.Common.{◌≡◌, ℕ, zero, suc, ◌+◌, List, [], ◌∷◌, ◌++◌, map, length, get_or, set, refl, sym, ap, ◌∙◌, arith, true, false}
 use Rattle.std.specs.Str.{bytes_eq}
-use Rattle.std.proofs.lemmas.List.{length-map, get_or-map}
+use Rattle.std.proofs.lemmas.List.{length-map, get_or-map, map-append, map-set}
 use Rattle.rdfc_ndegree.specs.Groups.{Hashed, Group}
 use Rattle.rdfc_ndegree.specs.Kept.{single, added, ends_with, hashed_in, group_in}
 use Rattle.rdfc_ndegree.specs.declared.related.HashedNode.{HashedNode}
@@ -9,15 +9,6 @@ use Rattle.rdfc_ndegree.specs.declared.related.NodeGroup.{NodeGroup}
 
 abbrev grown : Group ℕ → ℕ → Group ℕ
 grown g n = record { hash = g.hash; members = g.members ++ n ∷ [] }
-
-map-set : (gs : List NodeGroup) (k : ℕ) (g : NodeGroup) → map group_in (set gs k g) ≡ set (map group_in gs) k (group_in g)
-map-set [] k g = refl
-map-set (f ∷ fs) zero g = refl
-map-set (f ∷ fs) (suc k) g = let rest = map-set fs k g in λ i. group_in f ∷ rest i
-
-map-push : (gs : List NodeGroup) (g : NodeGroup) → map group_in (gs ++ g ∷ []) ≡ map group_in gs ++ group_in g ∷ []
-map-push [] g = refl
-map-push (f ∷ fs) g = let rest = map-push fs g in λ i. group_in f ∷ rest i
 
 added-old : (gs : List (Group ℕ)) (h : Hashed ℕ) (k : ℕ) (g : Group ℕ) → ends_with gs h.hash ≡ true → k + 1 ≡ length gs → g ≡ get_or gs k g → added gs h ≡ set gs k (grown g h.node)
 added-old [] h k g ends last is = absurd (cc)
@@ -37,14 +28,14 @@ pub groups-grown : (gs : List NodeGroup) (h : HashedNode) (k : ℕ) (g : NodeGro
 groups-grown gs h k g members ends last is more =
     let len : k + 1 ≡ length (map group_in gs) = last ∙ sym (length-map gs group_in) in
     let seen : group_in g ≡ get_or (map group_in gs) k (group_in g) = ap group_in is ∙ sym (get_or-map group_in gs k g (group_in g) (omega arith)) in
-    map-set gs k (record { hash = g.hash; members = members })
+    map-set group_in gs k (record { hash = g.hash; members = members })
     ∙ ap (λ ms. set (map group_in gs) k (record { hash = g.hash; members = ms })) more
     ∙ sym (added-old (map group_in gs) (hashed_in h) k (group_in g) ends len seen)
 
 -- a new group comes to the end
 pub groups-new : (gs new : List NodeGroup) (h : HashedNode) (g : NodeGroup) → ends_with (map group_in gs) h.hash ≡ false → new ≡ gs ++ g ∷ [] → g.hash ≡ h.hash → g.members ≡ h.node ∷ [] → map group_in new ≡ added (map group_in gs) (hashed_in h)
 groups-new gs new h g ends is hash members =
-    ap (map group_in) is ∙ map-push gs g ∙ (λ i. map group_in gs ++ record { hash = hash i; members = members i } ∷ []) ∙ sym (added-new (map group_in gs) (hashed_in h) ends)
+    ap (map group_in) is ∙ map-append group_in gs (g ∷ []) ∙ (λ i. map group_in gs ++ record { hash = hash i; members = members i } ∷ []) ∙ sym (added-new (map group_in gs) (hashed_in h) ends)
 
 pub ends_with-last : (gs : List NodeGroup) (hash : List ℕ) (k : ℕ) (g : NodeGroup) → k + 1 ≡ length gs → g ≡ get_or gs k g → ends_with (map group_in gs) hash ≡ bytes_eq g.hash hash
 ends_with-last [] hash k g last is = absurd (omega arith)

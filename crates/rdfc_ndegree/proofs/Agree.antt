@@ -3,6 +3,7 @@ use Rattle.std.proofs.Common.{◌≡◌, ℕ, zero, suc, ◌≤◌, List, [], �
 use Rattle.std.specs.Prelude.{◌⊎◌, ◌==◌, ◌||◌, nat_lt, Contains, bytes_eq, count_by, if◌then◌else◌}
 use Rattle.std.specs.List.{AllZip, list_any, starts_with}
 use Rattle.std.specs.List.Sorted.{IsPermutation}
+use Rattle.std.proofs.lemmas.Bool.{or_from, or_parts}
 use Rattle.std.proofs.lemmas.List.Elements.{All-contains}
 use Rattle.std.proofs.lemmas.List.Sorted.{IsPermutation-sym, Contains-permutation, sum_by-IsPermutation, list_any-IsPermutation}
 use Rattle.base_types.specs.Order.{is_upto}
@@ -12,7 +13,8 @@ use Rattle.base_types.proofs.Orders.{is_upto-antisymmetric}
 use Rattle.rdfc_ndegree.specs.Nodes.{Nodes}
 use Rattle.rdfc_ndegree.specs.Groups.{Group, related_groups}
 use Rattle.rdfc_ndegree.specs.NDegree.{Outcome, Trail, Choice, Calls, entry, trail_more, Nested, Evaluates, AreArrangements, counts, meets_tie, IsChoice, InGroups, IsCall, IsNDegreeWithin, IsNDegree}
-use Rattle.rdfc_ndegree.proofs.AgreeBasics.{or_left, or_right, or_false, same_tests, bytes_eq-true, bytes_eq-same, begins, begins-starts_with, begins-refl, begins-append, one_side, begins-other, begins-later, list_any-false, list_any-none, once, count_by-one, AllZip-weaker, AllZip-join, AllZip-right, AllZip-left, AllZip-count_by, Differ-from_AllDiffer, Paired, paired}
+use Rattle.rdfc_ndegree.proofs.Basics.{AllZip-from_left, AllZip-from_right, AllZip-weaker}
+use Rattle.rdfc_ndegree.proofs.AgreeBasics.{same_tests, bytes_eq-true, bytes_eq-same, begins, begins-starts_with, begins-refl, begins-append, one_side, begins-other, begins-later, list_any-false, list_any-none, once, count_by-one, AllZip-join, AllZip-count_by, Differ-from_AllDiffer, Paired, paired}
 
 -- ---- outcomes that agree
 
@@ -183,12 +185,12 @@ trails_follow : {B : Type 0} (best other : Trail B) (ts us : List (Trail B)) →
     → Contains ts best → ((t : Trail B) → Contains ts t → is_upto best.path t.path ≡ true) → meets_tie best.path ts ≡ false
     → Contains us other → ((u : Trail B) → Contains us u → is_upto other.path u.path ≡ true) → TrailsFollow best other us
 trails_follow {B} best other ts us alike among least none there lowest =
-    let few : nat_lt 1 (count_by (has_path best.path) ts) ≡ false = or_left (nat_lt 1 (count_by (has_path best.path) ts)) (list_any (has_tie best.path) ts) none in
-    let clean : list_any (has_tie best.path) ts ≡ false = or_right (nat_lt 1 (count_by (has_path best.path) ts)) (list_any (has_tie best.path) ts) none in
+    let few : nat_lt 1 (count_by (has_path best.path) ts) ≡ false = (or_parts (nat_lt 1 (count_by (has_path best.path) ts)) (list_any (has_tie best.path) ts) none).0 in
+    let clean : list_any (has_tie best.path) ts ≡ false = (or_parts (nat_lt 1 (count_by (has_path best.path) ts)) (list_any (has_tie best.path) ts) none).1 in
     let each : AllZip (Follows best.path) ts us = AllZip-weaker Alike (Follows best.path) ts us (λ t u c a. follows best.path t u a (least t c) (list_any-false (has_tie best.path) ts t clean c)) alike in
     let count : count_by (has_path best.path) ts ≡ count_by (has_path best.path) us = AllZip-count_by (has_path best.path) (has_path best.path) ts us (AllZip-weaker (Follows best.path) (λ t u. has_path best.path t ≡ has_path best.path u) ts us (λ t u c g. g.same_path) each) in
-    let partner = AllZip-right (Follows best.path) ts us best each among in
-    let origin = AllZip-left (Follows best.path) ts us other each there in
+    let partner = AllZip-from_left (Follows best.path) ts us best each among in
+    let origin = AllZip-from_right (Follows best.path) ts us other each there in
     let named : partner.0.path ≡ best.path = bytes_eq-true partner.0.path best.path (sym partner.2.same_path ∙ bytes_eq-same best.path best.path refl) in
     let below : is_upto other.path best.path ≡ true = subst (λ p. is_upto other.path p ≡ true) named (lowest partner.0 partner.1) in
     let equal : best.path ≡ other.path = is_upto-antisymmetric best.path other.path origin.2.above below in
@@ -196,7 +198,7 @@ trails_follow {B} best other ts us alike among least none there lowest =
     let at_most : count_by (has_path best.path) ts ≤ 1 = ltb-false 1 (count_by (has_path best.path) ts) few in
     let one : best ≡ origin.0 = count_by-one (has_path best.path) ts best origin.0 at_most among origin.1 (bytes_eq-same best.path best.path refl) has in
     record {
-      no_tie = or_false (nat_lt 1 (count_by (has_path best.path) us)) (list_any (has_tie best.path) us) (ap (nat_lt 1) (sym count) ∙ few) (list_any-none (has_tie best.path) us (λ u c. (AllZip-left (Follows best.path) ts us u each c).2.clean));
+      no_tie = or_from (nat_lt 1 (count_by (has_path best.path) us)) (list_any (has_tie best.path) us) (ap (nat_lt 1) (sym count) ∙ few) (list_any-none (has_tie best.path) us (λ u c. (AllZip-from_right (Follows best.path) ts us u each c).2.clean));
       path_is = equal;
       issuer_is = ap (λ (t : Trail B). t.issuer) one ∙ origin.2.same_issuer has;
     }

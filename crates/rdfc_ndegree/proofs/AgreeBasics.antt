@@ -1,8 +1,9 @@
 -- Texts that begin with a text, how many pass a test, and lists that are paired with one list in two orders.
 use Rattle.std.proofs.Common.{◌≡◌, ℕ, zero, suc, ◌+◌, ◌<◌, ◌≤◌, List, [], ◌∷◌, ◌++◌, refl, sym, ap, ◌∙◌, subst, ⊎_elim, arith, Bool, true, false, cond, true≢false, zero-lt-suc, suc-le-suc}
-use Rattle.std.specs.Prelude.{◌==◌, ◌||◌, ◌&&◌, Contains, bytes_eq, count_by}
+use Rattle.std.specs.Prelude.{◌==◌, ◌&&◌, Contains, bytes_eq, count_by}
 use Rattle.std.specs.List.{AllZip, list_any, starts_with}
 use Rattle.std.specs.List.Sorted.{IsPermutation}
+use Rattle.std.proofs.lemmas.Bool.{or_from, or_parts}
 use Rattle.std.proofs.lemmas.Bool.Decides.{nat_tests}
 use Rattle.std.proofs.lemmas.Slice.Eq.{bytes_eq-Decides}
 use Rattle.std.proofs.lemmas.List.Sums.{sum_by-cons}
@@ -12,17 +13,6 @@ use Rattle.base_types.specs.Sets.{SameElements, AllDiffer}
 use Rattle.base_types.proofs.Lists.{Contains-here, Contains-there, Contains-cons_cases, Contains-nil}
 
 -- ---- tests
-
-pub or_left : (a b : Bool) → (a || b) ≡ false → a ≡ false
-or_left true b e = e
-or_left false b e = refl
-
-pub or_right : (a b : Bool) → (a || b) ≡ false → b ≡ false
-or_right true b e = absurd (true≢false e)
-or_right false b e = e
-
-pub or_false : (a b : Bool) → a ≡ false → b ≡ false → (a || b) ≡ false
-or_false a b e f = λ i. e i || f i
 
 pub false_unless : (b : Bool) → (b ≡ true → ⊥) → b ≡ false
 false_unless true n = absurd (n refl)
@@ -86,11 +76,11 @@ begins-later xs least ys n h = false_unless (begins ys least) (λ e. true≢fals
 pub list_any-false : {X : Type 0} (p : X → Bool) (xs : List X) (x : X) → list_any p xs ≡ false → Contains xs x → p x ≡ false
 list_any-false p [] x e c = absurd (Contains-nil x c)
 list_any-false p (y ∷ ys) x e c =
-    ⊎_elim (λ same. subst (λ z. p z ≡ false) same (or_left (p y) (list_any p ys) e)) (λ d. list_any-false p ys x (or_right (p y) (list_any p ys) e) d) (Contains-cons_cases y ys x c)
+    ⊎_elim (λ same. subst (λ z. p z ≡ false) same (or_parts (p y) (list_any p ys) e).0) (λ d. list_any-false p ys x (or_parts (p y) (list_any p ys) e).1 d) (Contains-cons_cases y ys x c)
 
 pub list_any-none : {X : Type 0} (p : X → Bool) (xs : List X) → ((x : X) → Contains xs x → p x ≡ false) → list_any p xs ≡ false
 list_any-none p [] h = refl
-list_any-none p (x ∷ xs) h = or_false (p x) (list_any p xs) (h x (Contains-here x xs)) (list_any-none p xs (λ y c. h y (Contains-there x xs y c)))
+list_any-none p (x ∷ xs) h = or_from (p x) (list_any p xs) (h x (Contains-here x xs)) (list_any-none p xs (λ y c. h y (Contains-there x xs y c)))
 
 abbrev pub once : Bool → ℕ
 once b = cond b 1 0
@@ -129,17 +119,11 @@ pub count_by-none : {X : Type 0} (p : X → Bool) (xs : List X) → list_any p x
 count_by-none p [] e = refl
 count_by-none p (x ∷ xs) e =
     let whole : count_by p (x ∷ xs) ≡ once (p x) + count_by p xs = count_by-cons p x xs in
-    let here : once (p x) ≡ 0 = ap once (or_left (p x) (list_any p xs) e) in
-    let rest : count_by p xs ≡ 0 = count_by-none p xs (or_right (p x) (list_any p xs) e) in
+    let here : once (p x) ≡ 0 = ap once (or_parts (p x) (list_any p xs) e).0 in
+    let rest : count_by p xs ≡ 0 = count_by-none p xs (or_parts (p x) (list_any p xs) e).1 in
     omega arith
 
 -- ---- two lists, place by place
-
-pub AllZip-weaker : {X Y : Type 0} (R S : X → Y → Type 0) (xs : List X) (ys : List Y) → ((x : X) (y : Y) → Contains xs x → R x y → S x y) → AllZip R xs ys → AllZip S xs ys
-AllZip-weaker R S [] [] h z = tt
-AllZip-weaker R S [] (y ∷ ys) h z = absurd z
-AllZip-weaker R S (x ∷ xs) [] h z = absurd z
-AllZip-weaker R S (x ∷ xs) (y ∷ ys) h z = (h x y (Contains-here x xs) z.0, AllZip-weaker R S xs ys (λ w v c r. h w v (Contains-there x xs w c) r) z.1)
 
 pub AllZip-join : {W X Y : Type 0} (R : W → X → Type 0) (S : W → Y → Type 0) (T : X → Y → Type 0) (h : (w : W) (x : X) (y : Y) → R w x → S w y → T x y) (ws : List W) (xs : List X) (ys : List Y) → AllZip R ws xs → AllZip S ws ys → AllZip T xs ys
 AllZip-join R S T h [] [] [] a b = tt
@@ -148,19 +132,6 @@ AllZip-join R S T h [] (x ∷ xs) ys a b = absurd a
 AllZip-join R S T h (w ∷ ws) [] ys a b = absurd a
 AllZip-join R S T h (w ∷ ws) (x ∷ xs) [] a b = absurd b
 AllZip-join R S T h (w ∷ ws) (x ∷ xs) (y ∷ ys) a b = (h w x y a.0 b.0, AllZip-join R S T h ws xs ys a.1 b.1)
-
--- the element at the same place in the other list
-pub AllZip-right : {X Y : Type 0} (R : X → Y → Type 0) (xs : List X) (ys : List Y) (x : X) → AllZip R xs ys → Contains xs x → (y : Y) × Contains ys y × R x y
-AllZip-right R [] ys x z c = absurd (Contains-nil x c)
-AllZip-right R (w ∷ ws) [] x z c = absurd z
-AllZip-right R (w ∷ ws) (v ∷ vs) x z c =
-    ⊎_elim (λ e. (v, Contains-here v vs, subst (λ a. R a v) e z.0)) (λ d. let found = AllZip-right R ws vs x z.1 d in (found.0, Contains-there v vs found.0 found.1, found.2)) (Contains-cons_cases w ws x c)
-
-pub AllZip-left : {X Y : Type 0} (R : X → Y → Type 0) (xs : List X) (ys : List Y) (y : Y) → AllZip R xs ys → Contains ys y → (x : X) × Contains xs x × R x y
-AllZip-left R xs [] y z c = absurd (Contains-nil y c)
-AllZip-left R [] (v ∷ vs) y z c = absurd z
-AllZip-left R (w ∷ ws) (v ∷ vs) y z c =
-    ⊎_elim (λ e. (w, Contains-here w ws, subst (λ a. R w a) e z.0)) (λ d. let found = AllZip-left R ws vs y z.1 d in (found.0, Contains-there w ws found.0 found.1, found.2)) (Contains-cons_cases v vs y c)
 
 pub AllZip-count_by : {X Y : Type 0} (p : X → Bool) (q : Y → Bool) (xs : List X) (ys : List Y) → AllZip (λ x y. p x ≡ q y) xs ys → count_by p xs ≡ count_by q ys
 AllZip-count_by p q [] [] z = refl

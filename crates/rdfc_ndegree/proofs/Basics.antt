@@ -55,30 +55,28 @@ AllDiffer-append (x ∷ xs) ys a b n =
     (λ m. ⊎_elim (λ k. AllDiffer-head x xs a k) (λ k. n x (Contains-here x xs) k) (Contains-append_cases xs ys x m))
     (AllDiffer-append xs ys (AllDiffer-tail x xs a) b (λ y k l. n y (Contains-there x xs y k) l))
 
--- a pairing, from either side
-pub AllZip-from_right : {X Y : Type 0} (R : X → Y → Type 0) (xs : List X) (ys : List Y) (y : Y) → AllZip R xs ys → Contains ys y → (x : X) × Contains xs x × R x y
-AllZip-from_right R [] [] y z m = absurd (Contains-nil y m)
-AllZip-from_right R [] (b ∷ bs) y z m = absurd z
-AllZip-from_right R (a ∷ as') [] y z m = absurd z
-AllZip-from_right R (a ∷ as') (b ∷ bs) y z m =
-    ⊎_elim (λ s. (a, Contains-here a as', subst (R a) s z.0))
-    (λ n. let r = AllZip-from_right R as' bs y z.1 n in (r.0, Contains-there a as' r.0 r.1, r.2))
-    (Contains-cons_cases b bs y m)
-
+-- the element at the same place in the other list
 pub AllZip-from_left : {X Y : Type 0} (R : X → Y → Type 0) (xs : List X) (ys : List Y) (x : X) → AllZip R xs ys → Contains xs x → (y : Y) × Contains ys y × R x y
-AllZip-from_left R [] [] x z m = absurd (Contains-nil x m)
-AllZip-from_left R [] (b ∷ bs) x z m = absurd z
+AllZip-from_left R [] ys x z m = absurd (Contains-nil x m)
 AllZip-from_left R (a ∷ as') [] x z m = absurd z
 AllZip-from_left R (a ∷ as') (b ∷ bs) x z m =
     ⊎_elim (λ s. (b, Contains-here b bs, subst (λ w. R w b) s z.0))
     (λ n. let r = AllZip-from_left R as' bs x z.1 n in (r.0, Contains-there b bs r.0 r.1, r.2))
     (Contains-cons_cases a as' x m)
 
-pub AllZip-map : {X Y : Type 0} (R S : X → Y → Type 0) → ((x : X) (y : Y) → R x y → S x y) → (xs : List X) (ys : List Y) → AllZip R xs ys → AllZip S xs ys
-AllZip-map R S f [] [] z = tt
-AllZip-map R S f [] (b ∷ bs) z = absurd z
-AllZip-map R S f (a ∷ as') [] z = absurd z
-AllZip-map R S f (a ∷ as') (b ∷ bs) z = (f a b z.0, AllZip-map R S f as' bs z.1)
+pub AllZip-from_right : {X Y : Type 0} (R : X → Y → Type 0) (xs : List X) (ys : List Y) (y : Y) → AllZip R xs ys → Contains ys y → (x : X) × Contains xs x × R x y
+AllZip-from_right R xs [] y z m = absurd (Contains-nil y m)
+AllZip-from_right R [] (b ∷ bs) y z m = absurd z
+AllZip-from_right R (a ∷ as') (b ∷ bs) y z m =
+    ⊎_elim (λ s. (a, Contains-here a as', subst (R a) s z.0))
+    (λ n. let r = AllZip-from_right R as' bs y z.1 n in (r.0, Contains-there a as' r.0 r.1, r.2))
+    (Contains-cons_cases b bs y m)
+
+pub AllZip-weaker : {X Y : Type 0} (R S : X → Y → Type 0) (xs : List X) (ys : List Y) → ((x : X) (y : Y) → Contains xs x → R x y → S x y) → AllZip R xs ys → AllZip S xs ys
+AllZip-weaker R S [] [] h z = tt
+AllZip-weaker R S [] (y ∷ ys) h z = absurd z
+AllZip-weaker R S (x ∷ xs) [] h z = absurd z
+AllZip-weaker R S (x ∷ xs) (y ∷ ys) h z = (h x y (Contains-here x xs) z.0, AllZip-weaker R S xs ys (λ w v c r. h w v (Contains-there x xs w c) r) z.1)
 
 pub AllZip-append : {X Y : Type 0} (R : X → Y → Type 0) (xs us : List X) (ys vs : List Y) → AllZip R xs ys → AllZip R us vs → AllZip R (xs ++ us) (ys ++ vs)
 AllZip-append R [] us [] vs z w = w

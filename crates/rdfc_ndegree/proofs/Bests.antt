@@ -4,7 +4,6 @@ use Rattle.std.specs.Str.{bytes_eq}
 use Rattle.std.specs.List.{list_any, starts_with}
 use Rattle.std.proofs.lemmas.Bool.{false≢true}
 use Rattle.std.proofs.lemmas.Bool.Decides.{nat_tests}
-use Rattle.std.proofs.lemmas.Cmp.{tied_itself}
 use Rattle.std.specs.Cmp.Lexicographic.{slice_cmp, nat_list_cmp_total}
 use Rattle.std.specs.Ordering.{nat_cmp, is_eq, is_le, ordering_reverse}
 use Rattle.std.proofs.lemmas.List.Elements.{All-nil, All-push, All-contains, All-weaker, Contains-push, Contains-append_left}
@@ -12,24 +11,19 @@ use Rattle.std.proofs.lemmas.List.Folds.{list_any-append}
 use Rattle.std.proofs.lemmas.List.Sums.{sum_by_push, sum_by-cons}
 use Rattle.base_types.specs.Order.{is_upto}
 use Rattle.base_types.proofs.Lists.{Contains-here, Contains-there, Contains-cons_cases, Contains-nil}
-use Rattle.base_types.proofs.Orders.{is_upto-refl, is_upto-back, is_upto-transitive, bytes_eq-cmp, by_cmp, text_cmp, is_upto-cmp}
+use Rattle.base_types.proofs.Orders.{is_upto-refl, is_upto-back, is_upto-transitive, bytes_eq-cmp, text_cmp, is_upto-cmp}
 use Rattle.std.proofs.lemmas.Map.Lookups.{exact_bytes}
 use Rattle.std.specs.declared.cmp.Ordering.TheVariants.{Less, Equal, Greater}
 use Rattle.rdfc_ndegree.specs.NDegree.{Trail, counts, meets_tie, total_work, greatest_depth}
 use Rattle.rdfc_ndegree.specs.Evaluations.{all_ties, IsAmong, IsBestOf, IsPlaceOf}
-
-bytes_eq-itself : (x : List ℕ) → bytes_eq x x ≡ true
-bytes_eq-itself x = bytes_eq-cmp x x ∙ ap is_eq (tied_itself nat_list_cmp_total x)
-
-pub same_text : (x y : List ℕ) → bytes_eq x y ≡ true → x ≡ y
-same_text x y e = exact_bytes x y (by_cmp (text_cmp x y ≡ Equal) x y (λ f. let a = ap is_eq f in let b = bytes_eq-cmp x y in absurd (cc)) (λ f. f) (λ f. let a = ap is_eq f in let b = bytes_eq-cmp x y in absurd (cc)))
+use Rattle.rdfc_ndegree.proofs.AgreeBasics.{bytes_eq-true, bytes_eq-same}
 
 apart : (path other least : List ℕ) → is_upto least other ≡ true → is_upto least path ≡ false → bytes_eq other path ≡ false
 apart path other least below not = go (bytes_eq other path) refl
   where
     go : (b : Bool) → bytes_eq other path ≡ b → bytes_eq other path ≡ false
     go false e = e
-    go true e = absurd (false≢true (sym not ∙ ap (is_upto least) (sym (same_text other path e)) ∙ below))
+    go true e = absurd (false≢true (sym not ∙ ap (is_upto least) (sym (bytes_eq-true other path e)) ∙ below))
 
 many : (n : ℕ) → nat_lt 1 (min n (2 ^ 64 - 1)) ≡ nat_lt 1 n
 many n = grind (arith, nat_tests)
@@ -91,7 +85,7 @@ module _ {B : Type 0} where
   with_path-some path (t ∷ ts) b k e =
       let n = with_path-cons path t ts in
       ⊎_elim
-      (λ s. let h : one path t ≡ 1 = one-has path t (ap (bytes_eq t.path) (e ∙ ap (λ (z : Trail B). z.path) (sym s)) ∙ bytes_eq-itself t.path) in omega arith)
+      (λ s. let h : one path t ≡ 1 = one-has path t (ap (bytes_eq t.path) (e ∙ ap (λ (z : Trail B). z.path) (sym s)) ∙ bytes_eq-same t.path t.path refl) in omega arith)
       (λ l. let h : 0 < with_path path ts = with_path-some path ts b l e in omega arith)
       (Contains-cons_cases t ts b k)
 
@@ -121,7 +115,7 @@ module _ {B : Type 0} where
       let none : ts ≡ [] = none_yet ts path issuer sharing ties b z in
       let upto : All (λ (u : Trail B). is_upto t.path u.path ≡ true) ts = subst (All (λ (u : Trail B). is_upto t.path u.path ≡ true)) (sym none) (All-nil (λ (u : Trail B). is_upto t.path u.path ≡ true)) in
       let before : with_path t.path ts ≡ 0 = ap (with_path t.path) none in
-      let here : one t.path t ≡ 1 = one-has t.path t (bytes_eq-itself t.path) in
+      let here : one t.path t ≡ 1 = one-has t.path t (bytes_eq-same t.path t.path refl) in
       let n = with_path-push t.path ts t in
       record {
         among = inr record { best = t; contains = Contains-push ts t; path_is = refl; issuer_is = refl };
@@ -137,7 +131,7 @@ module _ {B : Type 0} where
       All-weaker (λ (u : Trail B). is_upto path u.path ≡ true) (λ (u : Trail B). is_upto t.path u.path ≡ true) (λ u f. is_upto-transitive t.path path u.path back f) ts b.least in
       let before : with_path t.path ts ≡ 0 =
       with_path-none t.path ts (λ u k. apart t.path u.path path (All-contains (λ (w : Trail B). is_upto path w.path ≡ true) ts u b.least k) less) in
-      let here : one t.path t ≡ 1 = one-has t.path t (bytes_eq-itself t.path) in
+      let here : one t.path t ≡ 1 = one-has t.path t (bytes_eq-same t.path t.path refl) in
       let n = with_path-push t.path ts t in
       record {
         among = inr record { best = t; contains = Contains-push ts t; path_is = refl; issuer_is = refl };
@@ -151,7 +145,7 @@ module _ {B : Type 0} where
 
   pub best-equal : (ts : List (Trail B)) (t : Trail B) (path : List ℕ) (issuer : List B) (sharing : ℕ) (ties : List (List ℕ)) → IsBestOf ts path issuer sharing ties → 0 < sharing → t.path ≡ path → IsBestOf (ts ++ t ∷ []) path issuer (min (sharing + 1) (2 ^ 64 - 1)) (ties ++ t.ties)
   best-equal ts t path issuer sharing ties b some same =
-      let here : one path t ≡ 1 = one-has path t (ap (bytes_eq t.path) (sym same) ∙ bytes_eq-itself t.path) in
+      let here : one path t ≡ 1 = one-has path t (ap (bytes_eq t.path) (sym same) ∙ bytes_eq-same t.path t.path refl) in
       let n = with_path-push path ts t in
       let was = b.sharing_is in
       record {

@@ -1,5 +1,6 @@
 -- Tables built of texts: numbers, rows, and the related nodes of a row.
 use Rattle.std.proofs.Common.{◌≡◌, ◌||◌, ◌==◌, ℕ, zero, suc, ◌<◌, ◌≤◌, List, [], ◌∷◌, ◌++◌, length, get_or, refl, sym, ap, ◌∙◌, subst, inl, inr, arith, Bool, true, false, cond, map, Contains, Option, Some, None, option_map, bytes_eq, slice_get, append-nil, append_assoc}
+use Rattle.std.proofs.Math.Bool.{or-true}
 use Rattle.std.specs.Prelude.{◌⊎◌}
 use Rattle.std.specs.Option.{option_eq, is_some}
 use Rattle.std.specs.List.{AllByRecursion, flat_map}
@@ -211,16 +212,12 @@ same_both k a b e f = option_eq-Some a b k (is_at-Some k a e) (is_at-Some k b f)
 apart_both : (k : ℕ) (a b : Option ℕ) → is_at k a ≡ false → is_at k b ≡ true → option_eq ◌==◌ a b ≡ false
 apart_both k a b e f = option_eq-other a b k e (is_at-Some k b f)
 
-or_true : (p : Bool) → (p || true) ≡ true
-or_true true = refl
-or_true false = refl
-
 or_same : (k : ℕ) (a b g : Option ℕ) → (is_at k a || is_at k b) ≡ true → is_at k g ≡ true → (option_eq ◌==◌ a g || option_eq ◌==◌ b g) ≡ true
 or_same k a b g e f = go (is_at k a) refl e
   where
     go : (t : Bool) → is_at k a ≡ t → (t || is_at k b) ≡ true → (option_eq ◌==◌ a g || option_eq ◌==◌ b g) ≡ true
     go true h e = ap (λ p. p || option_eq ◌==◌ b g) (same_both k a g h f)
-    go false h e = ap (λ p. option_eq ◌==◌ a g || p) (same_both k b g e f) ∙ or_true (option_eq ◌==◌ a g)
+    go false h e = ap (λ p. option_eq ◌==◌ a g || p) (same_both k b g e f) ∙ or-true (option_eq ◌==◌ a g)
 
 or_apart : (k : ℕ) (a b g : Option ℕ) → (is_at k a || is_at k b) ≡ false → is_at k g ≡ true → (option_eq ◌==◌ a g || option_eq ◌==◌ b g) ≡ false
 or_apart k a b g e f = go (is_at k a) refl e

@@ -1,20 +1,14 @@
 -- Lists in another order, lists without repeats, and what a map of the elements keeps.
-use Rattle.std.proofs.Common.{◌≡◌, ℕ, zero, suc, ◌+◌, ◌<◌, List, [], ◌∷◌, ◌++◌, map, length, get_or, set, refl, sym, ap, ◌∙◌, subst, ⊎_elim, arith, Bool, true, false, cond, ◌||◌, ◌≢◌, ◌↔◌, not, Decides, filter, Contains, append_assoc}
+use Rattle.std.proofs.Common.{◌≡◌, ℕ, zero, suc, ◌+◌, ◌<◌, List, [], ◌∷◌, ◌++◌, map, length, get_or, set, refl, sym, ap, ◌∙◌, subst, ⊎_elim, arith, Bool, true, false, cond, ◌||◌, filter, Contains, append_assoc}
 use Rattle.std.specs.List.{AllByRecursion, AllZip, flat_map, list_any, swap, remove, sum_by}
 use Rattle.std.specs.List.Sorted.{IsPermutation}
 use Rattle.std.proofs.lemmas.List.{get_or_default}
-use Rattle.std.proofs.lemmas.Bool.{false≢true}
-use Rattle.std.proofs.lemmas.List.Kept.{AllPairs-filter}
-use Rattle.std.proofs.lemmas.List.Elements.{All-from_recursion, recursion_from_All, All-contains, All-contains_itself, All-filter, filter_passes}
+use Rattle.std.proofs.lemmas.List.Elements.{All-from_recursion, recursion_from_All}
 use Rattle.std.proofs.lemmas.List.Sums.{sum_by-cons}
 use Rattle.std.proofs.lemmas.List.Sorted.{IsPermutation-refl, IsPermutation-sym, IsPermutation-trans, IsPermutation-cons, IsPermutation-middle, IsPermutation-keeps, IsPermutation-append_left, IsPermutation-append_right, IsPermutation-append_comm, IsPermutation-remove, All-permutation, Contains-permutation}
 use Rattle.base_types.specs.Sets.{AllDiffer, SameElements}
-use Rattle.base_types.proofs.Lists.{Contains-here, Contains-there, Contains-cons_cases, Contains-nil, SameElements-refl, SameElements-trans}
-use Rattle.nquads.specs.Terms.{Blank, Statement}
-use Rattle.nquads.specs.Renaming.{same_blank, blanks_of, StandsIn}
-use Rattle.nquads.specs.FirstDegree.{each_once, blanks}
-use Rattle.nquads.proofs.ReadingElements.{AllDiffer-nil, AllDiffer-head, AllDiffer-tail, AllDiffer-cons}
-use Rattle.nquads.proofs.ReadingBlanks.{same_blank-true, same_blank-itself}
+use Rattle.base_types.proofs.Lists.{Contains-here, Contains-there, Contains-cons_cases, Contains-nil, SameElements-trans}
+use Rattle.nquads.proofs.ReadingElements.{AllDiffer-head, AllDiffer-tail, AllDiffer-cons}
 
 -- ---- what holds of a list in another order
 
@@ -269,66 +263,3 @@ module _ {X Y : Type 0} (f : X → Y) where
       let head : f x ≡ f y = cc in
       let tail : map f xs ≡ map f ys = cc in
       ap (λ z. z ∷ xs) (o x y h.0 k.0 head) ∙ ap (λ l. y ∷ l) (map-injective P o xs ys h.1 k.1 tail)
-
--- ---- a list with each element once
-
-pub Contains-filter : {X : Type 0} (t : X → Bool) (xs : List X) (x : X) → Contains xs x → t x ≡ true → Contains (filter t xs) x
-Contains-filter t [] x m e = absurd (Contains-nil x m)
-Contains-filter t (y ∷ ys) x m e =
-    ⊎_elim (λ k. subst (Contains (filter t (y ∷ ys))) k (kept (t y) (ap t k ∙ e)))
-    (λ n. later (t y) (Contains-filter t ys x n e)) (Contains-cons_cases y ys x m)
-  where
-    kept : (b : Bool) → b ≡ true → Contains (cond b (y ∷ filter t ys) (filter t ys)) y
-    kept true k = Contains-here y (filter t ys)
-    kept false k = absurd (cc)
-
-    later : (b : Bool) → Contains (filter t ys) x → Contains (cond b (y ∷ filter t ys) (filter t ys)) x
-    later true n = Contains-there y (filter t ys) x n
-    later false n = n
-
-pub Contains-from_filter : {X : Type 0} (t : X → Bool) (xs : List X) (x : X) → Contains (filter t xs) x → Contains xs x × (t x ≡ true)
-Contains-from_filter t xs x m = (All-contains (Contains xs) (filter t xs) x (All-filter t (Contains xs) xs (All-contains_itself xs)) m, All-contains (λ y. t y ≡ true) (filter t xs) x (filter_passes t xs) m)
-
-module _ {X : Type 0} (same : X → X → Bool) (decides : (x y : X) → Decides (same x y) (x ≡ y)) where
-  others : X → List X → List X
-  others x xs = filter (λ z. not (same x z)) xs
-
-  once_to : (x : X) (xs us : List X) (y : X) → (Contains us y → Contains xs y) → Contains (x ∷ others x us) y → Contains (x ∷ xs) y
-  unfolding others
-  once_to x xs us y h m =
-      ⊎_elim (λ e. subst (Contains (x ∷ xs)) e (Contains-here x xs))
-      (λ n. Contains-there x xs y (h (Contains-from_filter (λ z. not (same x z)) us y n).0))
-      (Contains-cons_cases x (others x us) y m)
-
-  by_test : (b : Bool) (x : X) (us : List X) (y : X) → same x y ≡ b → Contains us y → Contains (x ∷ others x us) y
-  unfolding others
-  by_test true x us y e n = subst (Contains (x ∷ others x us)) ((decides x y).0 e) (Contains-here x (others x us))
-  by_test false x us y e n = Contains-there x (others x us) y (Contains-filter (λ z. not (same x z)) us y n (ap not e))
-
-  once_fro : (x : X) (xs us : List X) (y : X) → (Contains xs y → Contains us y) → Contains (x ∷ xs) y → Contains (x ∷ others x us) y
-  once_fro x xs us y h m =
-      ⊎_elim (λ e. subst (Contains (x ∷ others x us)) e (Contains-here x (others x us)))
-      (λ n. by_test (same x y) x us y refl (h n)) (Contains-cons_cases x xs y m)
-
-  pub each_once-same : (xs : List X) → SameElements (each_once same xs) xs
-  unfolding others
-  each_once-same [] = SameElements-refl []
-  each_once-same (x ∷ xs) = λ y. (once_to x xs (each_once same xs) y (each_once-same xs y).0, once_fro x xs (each_once same xs) y (each_once-same xs y).1)
-
-  pub AllDiffer-each_once : (xs : List X) → AllDiffer (each_once same xs)
-  AllDiffer-each_once [] = AllDiffer-nil
-  AllDiffer-each_once (x ∷ xs) =
-      AllDiffer-cons x (filter (λ z. not (same x z)) (each_once same xs))
-      (λ m. let e : not (same x x) ≡ true = (Contains-from_filter (λ z. not (same x z)) (each_once same xs) x m).1 in
-      let i : same x x ≡ true = (decides x x).1 refl in
-      absurd (false≢true (ap not (sym i) ∙ e)))
-      (AllPairs-filter (λ y z. y ≢ z) (λ z. not (same x z)) (each_once same xs) (AllDiffer-each_once xs))
-
-pub same_blank-decides : (a b : Blank) → Decides (same_blank a b) (a ≡ b)
-same_blank-decides a b = (same_blank-true a b, λ e. subst (λ z. same_blank a z ≡ true) e (same_blank-itself a))
-
-pub AllDiffer-blanks : (q : List Statement) → AllDiffer (blanks q)
-AllDiffer-blanks q = AllDiffer-each_once same_blank same_blank-decides (flat_map blanks_of q)
-
-pub blanks-StandsIn : (q : List Statement) (b : Blank) → Contains (blanks q) b ↔ StandsIn q b
-blanks-StandsIn q b = each_once-same same_blank same_blank-decides (flat_map blanks_of q) b

@@ -6,11 +6,11 @@ use Rattle.base_types.proofs.Lists.{Contains-map}
 use Rattle.rdfc_ndegree.specs.declared.related.HashedNode.{HashedNode}
 use Rattle.rdfc_ndegree.specs.declared.related.NodeGroup.{NodeGroup}
 use Rattle.rdfc_ndegree.specs.declared.table.NodeRow.{NodeRow}
-use Rattle.rdfc_ndegree.specs.Groups.{Group}
 use Rattle.rdfc_ndegree.specs.Kept.{hashed_in, group_in}
 use Rattle.rdfc_ndegree.specs.Run.{hashed_first, first_groups}
 use Rattle.rdfc_ndegree.specs.Table.{numbers_below, first_in, table_nodes}
-use Rattle.rdfc_ndegree.proofs.TableCarry.{table-all, table-first, numbers-below}
+use Rattle.rdfc_ndegree.proofs.Tables.{table-all, table-first}
+use Rattle.rdfc_ndegree.proofs.TableCarry.{numbers-below}
 use Rattle.rdfc_ndegree.proofs.Exists.{first_groups-listed}
 
 -- what stands at a place within a list

@@ -7,7 +7,6 @@ use Rattle.std.specs.List.Sorted.{IsPermutation, IsStrictlySortedBy, IsSortedByK
 use Rattle.std.specs.Cmp.Lexicographic.{nat_list_cmp_total, nat_list_eq_equiv}
 use Rattle.std.specs.Ordering.{is_le, is_lt, is_eq, ordering_reverse}
 use Rattle.std.specs.declared.cmp.Ordering.TheVariants.{Less}
-use Rattle.std.proofs.lemmas.Cmp.{tied_itself}
 use Rattle.std.proofs.lemmas.Map.Lookups.{exact_bytes}
 use Rattle.std.proofs.lemmas.List.{map-append, get_or-take, length-take-le}
 use Rattle.std.proofs.lemmas.List.Sorted.{IsPermutation-to_front, IsPermutation-sym, IsPermutation-map, Contains-permutation, sorted_far, ranks_by}
@@ -19,23 +18,15 @@ use Rattle.base_types.proofs.Rising.{rising-rises, rising-same, rising-free}
 use Rattle.rdfc_ndegree.specs.Groups.{Hashed, Group, group_of, grouped}
 use Rattle.rdfc_ndegree.specs.Kept.{single, added, hashed_in}
 use Rattle.rdfc_ndegree.specs.declared.related.HashedNode.{HashedNode}
+use Rattle.rdfc_ndegree.proofs.AgreeBasics.{bytes_eq-true, bytes_eq-same}
+use Rattle.rdfc_ndegree.proofs.CarryBasics.{Each-from_contains, filter-map_each}
 
 -- ---- comparisons of hashes
-
-same-itself : (t : List ℕ) → bytes_eq t t ≡ true
-same-itself t = bytes_eq-cmp t t ∙ ap is_eq (tied_itself nat_list_cmp_total t)
-
-same-if : (t u : List ℕ) → bytes_eq t u ≡ true → t ≡ u
-same-if t u e =
-    by_cmp (t ≡ u) t u
-    (λ f. let a = bytes_eq-cmp t u in let b = ap is_eq f in absurd (cc))
-    (λ f. exact_bytes t u f)
-    (λ f. let a = bytes_eq-cmp t u in let b = ap is_eq f in absurd (cc))
 
 below-differs : (t u : List ℕ) → text_cmp t u ≡ Less → bytes_eq t u ≡ false
 below-differs t u less = bytes_eq-cmp t u ∙ ap is_eq less
 
-less-upto : (t u v : List ℕ) → text_cmp t u ≡ Less → is_upto u v ≡ true → text_cmp t v ≡ Less
+pub less-upto : (t u v : List ℕ) → text_cmp t u ≡ Less → is_upto u v ≡ true → text_cmp t v ≡ Less
 less-upto t u v less upto =
     let a = is_upto-cmp u v in
     by_cmp (text_cmp t v ≡ Less) u v
@@ -43,7 +34,7 @@ less-upto t u v less upto =
     (λ f. subst (λ w. text_cmp t w ≡ Less) (exact_bytes u v f) less)
     (λ f. let b = ap is_le f in absurd (cc))
 
-upto_if : (t u : List ℕ) → is_lt (text_cmp u t) ≡ false → is_upto t u ≡ true
+pub upto_if : (t u : List ℕ) → is_lt (text_cmp u t) ≡ false → is_upto t u ≡ true
 upto_if t u e =
     let turned = nat_list_cmp_total.antisymm t u in let above = is_upto-cmp t u in
     by_cmp (is_upto t u ≡ true) u t (λ f. let a = ap is_lt f in absurd (cc)) (λ f. let a = ap ordering_reverse f in let b = ap is_le (turned ∙ a) in cc) (λ f. let a = ap ordering_reverse f in let b = ap is_le (turned ∙ a) in cc)
@@ -67,10 +58,6 @@ filter-push_no : {X : Type 0} (p : X → Bool) (xs : List X) (y : X) → p y ≡
 filter-push_no p [] y e = rw e refl
 filter-push_no p (x ∷ xs) y e = elim (p x) as (λ b. cond b (x ∷ filter p (xs ++ y ∷ [])) (filter p (xs ++ y ∷ [])) ≡ cond b (x ∷ filter p xs) (filter p xs)) [ true ↦ ap (λ zs. x ∷ zs) (filter-push_no p xs y e) | false ↦ filter-push_no p xs y e ]
 
-filter-map : {X Y : Type 0} (f : X → Y) (p : Y → Bool) (xs : List X) → filter p (map f xs) ≡ map f (filter (λ x. p (f x)) xs)
-filter-map f p [] = refl
-filter-map f p (x ∷ xs) = elim (p (f x)) as (λ b. cond b (f x ∷ filter p (map f xs)) (filter p (map f xs)) ≡ map f (cond b (x ∷ filter (λ y. p (f y)) xs) (filter (λ y. p (f y)) xs))) [ true ↦ ap (λ zs. f x ∷ zs) (filter-map f p xs) | false ↦ filter-map f p xs ]
-
 filter-alike : {X : Type 0} (p q : X → Bool) (xs : List X) → ((x : X) → p x ≡ q x) → filter p xs ≡ filter q xs
 filter-alike p q [] same = refl
 filter-alike p q (x ∷ xs) same = let rest = filter-alike p q xs same in let e = same x in λ i. cond (e i) (x ∷ rest i) (rest i)
@@ -87,10 +74,6 @@ put_once-after t u us less =
     let a : bytes_eq t u ≡ false = nat_list_eq_equiv.symm t u ∙ below-differs u t less in
     let b : is_upto t u ≡ false = is_upto-cmp t u ∙ ap is_le (nat_list_cmp_total.antisymm t u ∙ ap ordering_reverse less) in
     rw (a, b) refl
-
-all-contained : {X : Type 0} (P : X → Type 0) (xs : List X) → ((x : X) → Contains xs x → P x) → AllByRecursion P xs
-all-contained P [] each = tt
-all-contained P (x ∷ xs) each = (each x (Contains-here x xs), all-contained P xs (λ y c. each y (Contains-there x xs y c)))
 
 -- ---- one node more, after all others
 
@@ -109,7 +92,7 @@ module _ {B : Type 0} where
       ap (λ ns. record { hash = t; members = ns }) (ap (map (λ k. k.node)) (filter-push_yes (λ k. bytes_eq k.hash t) done h e) ∙ map-append (λ k. k.node) (with_hash t done) (h ∷ []))
 
   group-first : (done : List (Hashed B)) (h : Hashed B) → with_hash h.hash done ≡ [] → group_of (done ++ h ∷ []) h.hash ≡ single h
-  group-first done h none = group-grown done h h.hash (same-itself h.hash) ∙ ap (λ hs. record { hash = h.hash; members = map (λ k. k.node) hs ++ h.node ∷ [] }) none
+  group-first done h none = group-grown done h h.hash (bytes_eq-same h.hash h.hash refl) ∙ ap (λ hs. record { hash = h.hash; members = map (λ k. k.node) hs ++ h.node ∷ [] }) none
 
   added-each : (done : List (Hashed B)) (h : Hashed B) (ts : List (List ℕ)) → IsStrictlySortedBy text_cmp ts → AllByRecursion (λ t. is_upto t h.hash ≡ true) ts → Contains ts h.hash ⊎ (with_hash h.hash done ≡ [])
       → added (map (group_of done) ts) h ≡ map (group_of (done ++ h ∷ [])) (put_once h.hash ts)
@@ -125,7 +108,7 @@ module _ {B : Type 0} where
           grown ∙ ap (λ g. g ∷ []) (sym (group-grown done h u back)) ∙ ap (map (group_of (done ++ h ∷ []))) (sym kept)
       go false e =
           let back : bytes_eq h.hash u ≡ false = nat_list_eq_equiv.symm h.hash u ∙ e in
-          let none : with_hash h.hash done ≡ [] = ⊎_elim (λ c. absurd (⊎_elim (λ s. let t = same-itself u in let r : bytes_eq u h.hash ≡ true = subst (λ v. bytes_eq u v ≡ true) s t in cc) (λ d. Contains-nil h.hash d) (Contains-cons_cases u [] h.hash c))) (λ n. n) fresh in
+          let none : with_hash h.hash done ≡ [] = ⊎_elim (λ c. absurd (⊎_elim (λ s. let t = bytes_eq-same u u refl in let r : bytes_eq u h.hash ≡ true = subst (λ v. bytes_eq u v ≡ true) s t in cc) (λ d. Contains-nil h.hash d) (Contains-cons_cases u [] h.hash c))) (λ n. n) fresh in
           let after = put_once-after h.hash u [] (upto-less u h.hash all.0 e) in
           let apart : added (map (group_of done) (u ∷ [])) h ≡ group_of done u ∷ single h ∷ [] = rw e refl in
           apart ∙ (λ i. sym (group-other done h u back) i ∷ sym (group-first done h none) i ∷ []) ∙ ap (map (group_of (done ++ h ∷ []))) (sym after)
@@ -133,7 +116,7 @@ module _ {B : Type 0} where
       let less = less-upto u w h.hash up.0.0 all.1.0 in
       let differ = below-differs u h.hash less in
       let back : bytes_eq h.hash u ≡ false = nat_list_eq_equiv.symm h.hash u ∙ differ in
-      let later : Contains (w ∷ us) h.hash ⊎ (with_hash h.hash done ≡ []) = ⊎_elim (λ c. ⊎_elim (λ s. let t = same-itself u in let r : bytes_eq u h.hash ≡ true = subst (λ v. bytes_eq u v ≡ true) s t in absurd (cc)) (λ d. inl d) (Contains-cons_cases u (w ∷ us) h.hash c)) (λ n. inr n) fresh in
+      let later : Contains (w ∷ us) h.hash ⊎ (with_hash h.hash done ≡ []) = ⊎_elim (λ c. ⊎_elim (λ s. let t = bytes_eq-same u u refl in let r : bytes_eq u h.hash ≡ true = subst (λ v. bytes_eq u v ≡ true) s t in absurd (cc)) (λ d. inl d) (Contains-cons_cases u (w ∷ us) h.hash c)) (λ n. inr n) fresh in
       let rest = added-each done h (w ∷ us) up.1 all.1 later in
       (λ i. sym (group-other done h u back) i ∷ rest i) ∙ ap (map (group_of (done ++ h ∷ []))) (sym (put_once-after h.hash u (w ∷ us) less))
 
@@ -142,7 +125,7 @@ module _ {B : Type 0} where
   hash-there (h ∷ hs) t = go (bytes_eq h.hash t) refl (hash-there hs t)
     where
       go : (b : Bool) → bytes_eq h.hash t ≡ b → Contains (hashes hs) t ⊎ (with_hash t hs ≡ []) → Contains (hashes (h ∷ hs)) t ⊎ (with_hash t (h ∷ hs) ≡ [])
-      go true e rest = inl (subst (Contains (hashes (h ∷ hs))) (same-if h.hash t e) (Contains-here h.hash (hashes hs)))
+      go true e rest = inl (subst (Contains (hashes (h ∷ hs))) (bytes_eq-true h.hash t e) (Contains-here h.hash (hashes hs)))
       go false e (inl c) = inl (Contains-there h.hash (hashes hs) t c)
       go false e (inr none) = inr (rw e none)
 
@@ -155,7 +138,7 @@ module _ {B : Type 0} where
       let ts = hashes done in
       let same : SameElements (ts ++ h.hash ∷ []) (h.hash ∷ ts) = λ t. (Contains-permutation (ts ++ h.hash ∷ []) (h.hash ∷ ts) t (IsPermutation-to_front ts h.hash), Contains-permutation (h.hash ∷ ts) (ts ++ h.hash ∷ []) t (IsPermutation-sym _ _ (IsPermutation-to_front ts h.hash))) in
       let order : rising (hashes (done ++ h ∷ [])) ≡ put_once h.hash (rising ts) = ap rising (map-append (λ k. k.hash) done (h ∷ [])) ∙ rising-free (ts ++ h.hash ∷ []) (h.hash ∷ ts) same in
-      let below : AllByRecursion (λ t. is_upto t h.hash ≡ true) (rising ts) = all-contained (λ t. is_upto t h.hash ≡ true) (rising ts) (λ t c. AllByRecursion-contains (λ u. is_upto u h.hash ≡ true) ts t (all-upto done h.hash all) ((rising-same ts t).0 c)) in
+      let below : AllByRecursion (λ t. is_upto t h.hash ≡ true) (rising ts) = Each-from_contains (λ t. is_upto t h.hash ≡ true) (rising ts) (λ t c. AllByRecursion-contains (λ u. is_upto u h.hash ≡ true) ts t (all-upto done h.hash all) ((rising-same ts t).0 c)) in
       let fresh : Contains (rising ts) h.hash ⊎ (with_hash h.hash done ≡ []) = ⊎_elim (λ c. inl ((rising-same ts h.hash).1 c)) (λ n. inr n) (hash-there done h.hash) in
       added-each done h (rising ts) (rising-rises ts) below fresh ∙ ap (map (group_of (done ++ h ∷ []))) (sym order)
 
@@ -184,7 +167,7 @@ module _ {B : Type 0} where
 -- ---- what a stable sort leaves
 
 with-kept : (t : List ℕ) (xs : List HashedNode) → filter (λ (h : Hashed ℕ). bytes_eq h.hash t) (map hashed_in xs) ≡ map hashed_in (filter (λ (h : HashedNode). bytes_eq h.hash t) xs)
-with-kept t xs = filter-map hashed_in (λ (h : Hashed ℕ). bytes_eq h.hash t) xs
+with-kept t xs = filter-map_each hashed_in (λ (h : Hashed ℕ). bytes_eq h.hash t) xs
 
 pub grouped-stable : (xs ys : List HashedNode) → IsPermutation xs ys → IsStableByKey (λ (h : HashedNode). h.hash) text_cmp xs ys → grouped (map hashed_in ys) ≡ grouped (map hashed_in xs)
 grouped-stable xs ys moved stable = grouped-alike (map hashed_in ys) (map hashed_in xs) same each

@@ -7,7 +7,7 @@ use Rattle.rdfc_ndegree.specs.Issuers.{has, issue}
 use Rattle.rdfc_ndegree.specs.Groups.{Group, related_groups}
 use Rattle.rdfc_ndegree.specs.NDegree.{Outcome, Trail, Choice, Calls, named, named_all, first_path, newly_named, entry, Nested, Evaluates, IsChoice, InGroups, IsCall, IsNDegreeWithin, IsNDegree}
 pub use Rattle.rdfc_ndegree.specs.Lack.{Grows}
-use Rattle.rdfc_ndegree.proofs.Basics.{AllZip-from_right, AllZip-map, has-append_left}
+use Rattle.rdfc_ndegree.proofs.Basics.{AllZip-from_right, AllZip-weaker, has-append_left}
 
 -- each call over `calls` gives an issuer that has grown; what `fewer` may give `more` may give
 abbrev pub CallsGrow : {B : Type 0} → Nodes B → Calls B → Type 0
@@ -100,7 +100,7 @@ module _ {B : Type 0} (v : Nodes B) where
     trails = d.trails;
     best = d.best;
     all = d.all;
-    evaluated = AllZip-map (Evaluates v fewer c i) (Evaluates v more c i) (λ p t. Evaluates-more fewer more a c i p t) d.arrangements d.trails d.evaluated;
+    evaluated = AllZip-weaker (Evaluates v fewer c i) (Evaluates v more c i) d.arrangements d.trails (λ p t _. Evaluates-more fewer more a c i p t) d.evaluated;
     among = d.among;
     least = d.least;
     is = d.is;
@@ -164,8 +164,8 @@ module _ {B : Type 0} (v : Nodes B) (c : List B) where
         first.0 + later.0,
         (
           Evaluates-more v (IsNDegreeWithin v c first.0) (IsNDegreeWithin v c (first.0 + later.0)) (up_left first.0 later.0) c i p t first.1,
-          AllZip-map (Evaluates v (IsNDegreeWithin v c later.0) c i) (Evaluates v (IsNDegreeWithin v c (first.0 + later.0)) c i)
-              (λ q u. Evaluates-more v (IsNDegreeWithin v c later.0) (IsNDegreeWithin v c (first.0 + later.0)) (up_right first.0 later.0) c i q u) ps ts later.1,
+          AllZip-weaker (Evaluates v (IsNDegreeWithin v c later.0) c i) (Evaluates v (IsNDegreeWithin v c (first.0 + later.0)) c i) ps ts
+              (λ q u _. Evaluates-more v (IsNDegreeWithin v c later.0) (IsNDegreeWithin v c (first.0 + later.0)) (up_right first.0 later.0) c i q u) later.1,
         ),
       )
 

@@ -2,6 +2,7 @@
 use Rattle.std.proofs.Common.{◌≡◌, ℕ, List, filter, Contains, true, not, ◌↔◌, ◌++◌, ap, subst, ⊎_elim}
 use Rattle.std.proofs.lemmas.List.Elements.{Contains-append_left, Contains-append_right, Contains-append_cases}
 use Rattle.std.specs.List.{flat_map}
+use Rattle.base_types.specs.Sets.{AllDiffer}
 use Rattle.base_types.proofs.Lists.{Contains-from_map}
 use Rattle.nquads.specs.Terms.{Blank, Statement}
 use Rattle.nquads.specs.Renaming.{same_blank, blanks_of_term, blanks_of_graph, blanks_of, StandsIn}
@@ -19,6 +20,9 @@ same_blank-equal x y = (same_blank-true x y, λ e. subst (λ (z : Blank). same_b
 
 pub blanks-all : (q : List Statement) (b : Blank) → StandsIn q b ↔ Contains (blanks q) b
 blanks-all q b = (each_once-has same_blank same_blank-equal (flat_map blanks_of q) b, each_once-from same_blank same_blank-equal (flat_map blanks_of q) b)
+
+pub AllDiffer-blanks : (q : List Statement) → AllDiffer (blanks q)
+AllDiffer-blanks q = each_once-differ same_blank same_blank-equal (flat_map blanks_of q)
 
 at_position : (n : Blank) (position : Position) (predicate : List ℕ) (bs : List Blank) (o : Occurrence Blank) → Contains (occurrences_at n position predicate bs) o → Contains bs o.blank
 at_position n position predicate bs o k =
@@ -44,6 +48,6 @@ related_in-stands q n o k =
 pub nodes-lawful : (digest : List ℕ → List ℕ) (q : List Statement) → AreNodes (nodes_of digest q)
 nodes-lawful digest q = record {
   equal = same_blank-equal;
-  differ = each_once-differ same_blank same_blank-equal (flat_map blanks_of q);
+  differ = AllDiffer-blanks q;
   closed = λ n listed. All-from_contains (λ (o : Occurrence Blank). Contains (blanks q) o.blank) (related_in q n) (λ o k. (blanks-all q o.blank).0 (related_in-stands q n o k));
 }

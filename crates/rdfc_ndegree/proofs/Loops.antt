@@ -1,6 +1,7 @@
 -- What the loops of an n-degree call over a table keep, and their steps with what the program has at hand.
-use Rattle.std.proofs.Common.{◌≡◌, ℕ, ◌+◌, ◌<◌, ◌≤◌, List, [], ◌∷◌, ◌++◌, length, get_or, drop, All, Bool, ◌||◌, ◌==◌, nat_lt, map, refl, sym, ap, ◌∙◌, subst, arith, if◌then◌else◌, Option, Some, None, IsNone, Result, IsErrAnd, IfErr, Ok, Err, add-one, drop-cons, drop_of_length-le}
+use Rattle.std.proofs.Common.{◌≡◌, ℕ, ◌+◌, ◌<◌, ◌≤◌, List, [], ◌∷◌, ◌++◌, length, get_or, drop, All, Bool, ◌||◌, ◌==◌, nat_lt, map, refl, sym, ap, ◌∙◌, subst, arith, if◌then◌else◌, Option, Some, None, IsNone, Result, IsErrAnd, IfErr, Ok, Err, drop_of_length-le}
 use Rattle.std.specs.List.{list_any, starts_with}
+use Rattle.std.proofs.lemmas.List.{drop_more}
 use Rattle.std.proofs.lemmas.List.Elements.{All-drop, Contains-append_right}
 use Rattle.std.proofs.lemmas.List.Sorted.{All-permutation}
 use Rattle.base_types.proofs.Lists.{Contains-here}
@@ -19,7 +20,7 @@ use Rattle.rdfc_ndegree.specs.Kept.{group_in}
 use Rattle.rdfc_ndegree.specs.Answers.{AnswersCall, CallOver, CallDeep}
 use Rattle.rdfc_ndegree.specs.Evaluations.{AnswersTrail, TrailOver, TrailDeep, AnswersChoice, ChoiceOver, ChoiceDeep, IsFaultOf}
 use Rattle.rdfc_ndegree.specs.Progress.{Walking, Choosing, Grouping}
-use Rattle.rdfc_ndegree.proofs.TableCarry.{table-digest}
+use Rattle.rdfc_ndegree.proofs.Tables.{table-digest}
 use Rattle.rdfc_ndegree.proofs.Bests.{Takes}
 use Rattle.rdfc_ndegree.proofs.Rows.{unnamed, unnamed-choice, unnamed-call, unnamed-walk, groups-rows, rows-listed, All-named_all, All-newly_named}
 use Rattle.rdfc_ndegree.proofs.Steps.{walking-start, walking-turn, walking-end, walking-fault, walking-blocked, grouping-turn, grouping-end, grouping-fault, choosing-turn, choosing-end, choosing-fault, choosing-full}
@@ -39,11 +40,8 @@ counting-turn {before = before} {meter = meter} {next = next} k same kept = reco
   kept = λ h. subst (λ (l : Limits). next.spent ≤ l.work) k.limits (kept (subst (λ (l : Limits). meter.spent ≤ l.work) (sym k.limits) (k.kept h)));
 }
 
-next_at : {X : Type 0} (xs : List X) (k : ℕ) (d : X) → k < length xs → drop k xs ≡ get_or xs k d ∷ drop (k + 1) xs
-next_at xs k d lt = rw add-one (drop-cons xs k d lt)
-
-next_item : {X : Type 0} (xs : List X) (k : ℕ) (x : X) → k < length xs → x ≡ get_or xs k x → drop k xs ≡ x ∷ drop (k + 1) xs
-next_item xs k x lt is = next_at xs k x lt ∙ ap (λ y. y ∷ drop (k + 1) xs) (sym is)
+pub next_item : {X : Type 0} (xs : List X) (k : ℕ) (x : X) → k < length xs → x ≡ get_or xs k x → drop k xs ≡ x ∷ drop (k + 1) xs
+next_item xs k x lt is = drop_more xs k x lt ∙ ap (λ y. y ∷ drop (k + 1) xs) (sym is)
 
 -- a fault handed on
 pub handed_on : {A E : Type 0} (r : Result A E) (e : E) (P : E → Type 0) → IsErrAnd r (λ x. x ≡ e) → P e → IfErr r P
@@ -204,7 +202,7 @@ module _ (rows : List NodeRow) (laws : AreNodes (table_nodes rows)) (c : List �
       → InMemberLoop rows c i p (path ++ entry (table_nodes rows) now (get_or ms k 0) hash) first issuer (if tie then ties ++ path ∷ [] else ties) (drop (k + 1) ms) before next depth
   member-turn {i = i} {p = p} {path = path} {first = first} {now = now} {ties = ties} {before = before} {meter = meter} {depth = depth} {hash = hash} {issuer = issuer} {tie = tie} ms k next lt w a inside same kept =
       let here : Walking (table_nodes rows) c i p path now ties (get_or ms k 0 ∷ drop (k + 1) ms) before.spent meter.spent depth before.limits.depth =
-      subst (λ r. Walking (table_nodes rows) c i p path now ties r before.spent meter.spent depth before.limits.depth) (next_at ms k 0 lt) w.walking in
+      subst (λ r. Walking (table_nodes rows) c i p path now ties r before.spent meter.spent depth before.limits.depth) (drop_more ms k 0 lt) w.walking in
       let b : AnswersCall (table_nodes rows) c (get_or ms k 0) now hash issuer tie meter.spent next.spent (depth + 1) before.limits.depth =
       subst (λ (l : Limits). AnswersCall (table_nodes rows) c (get_or ms k 0) now hash issuer tie meter.spent next.spent (depth + 1) l.depth) w.counting.limits a in
       let f : unnamed rows c issuer ≤ unnamed rows c now = unnamed-call rows a in
@@ -222,7 +220,7 @@ module _ (rows : List NodeRow) (laws : AreNodes (table_nodes rows)) (c : List �
       → IsFaultOf before.limits (TrailOver (table_nodes rows) c i p before.spent) (TrailDeep (table_nodes rows) c i p depth) e
   member-fault {i = i} {p = p} {path = path} {now = now} {ties = ties} {before = before} {meter = meter} {depth = depth} ms k lt each w e h =
       let here : Walking (table_nodes rows) c i p path now ties (get_or ms k 0 ∷ drop (k + 1) ms) before.spent meter.spent depth before.limits.depth =
-      subst (λ r. Walking (table_nodes rows) c i p path now ties r before.spent meter.spent depth before.limits.depth) (next_at ms k 0 lt) w.walking in
+      subst (λ r. Walking (table_nodes rows) c i p path now ties r before.spent meter.spent depth before.limits.depth) (drop_more ms k 0 lt) w.walking in
       walking-fault laws c here (rows-listed rows (drop (k + 1) ms) (All-drop (λ x. x < length rows) (k + 1) ms each)) w.counting.limits e h
 
   pub member-blocked : {i p path first now : List ℕ} {ties : List (List ℕ)} {before meter : Meter} {depth : ℕ} (ms : List ℕ) (k : ℕ) → k < length ms → All (λ k. k < length rows) ms
@@ -230,8 +228,8 @@ module _ (rows : List NodeRow) (laws : AreNodes (table_nodes rows)) (c : List �
       → (meter.limits.depth ≡ before.limits.depth) × TrailDeep (table_nodes rows) c i p depth meter.limits.depth
   member-blocked {i = i} {p = p} {path = path} {now = now} {ties = ties} {before = before} {meter = meter} {depth = depth} ms k lt each w full =
       let here : Walking (table_nodes rows) c i p path now ties (get_or ms k 0 ∷ drop (k + 1) ms) before.spent meter.spent depth before.limits.depth =
-      subst (λ r. Walking (table_nodes rows) c i p path now ties r before.spent meter.spent depth before.limits.depth) (next_at ms k 0 lt) w.walking in
-      let listed = subst (λ r. AreListed (table_nodes rows) r) (next_at ms k 0 lt) (rows-listed rows (drop k ms) (All-drop (λ x. x < length rows) k ms each)) in
+      subst (λ r. Walking (table_nodes rows) c i p path now ties r before.spent meter.spent depth before.limits.depth) (drop_more ms k 0 lt) w.walking in
+      let listed = subst (λ r. AreListed (table_nodes rows) r) (drop_more ms k 0 lt) (rows-listed rows (drop k ms) (All-drop (λ x. x < length rows) k ms each)) in
       (ap (λ (l : Limits). l.depth) w.counting.limits, walking-blocked laws c here listed meter.limits.depth full)
 
   pub member-end : {i p path first now : List ℕ} {ties : List (List ℕ)} {before meter : Meter} {depth : ℕ} (ms : List ℕ) (k : ℕ) (its_path : List ℕ) → length ms ≤ k

@@ -3,7 +3,7 @@ use Rattle.std.proofs.Common.{◌≡◌, ℕ, zero, suc, ◌+◌, ◌-◌, ◌<�
 use borrow.Rule.Slice.PartMut.{put_mid}
 use Rattle.std.specs.Prelude.{slice_index, reverse}
 use Rattle.std.specs.List.{AllByRecursion, swap}
-use Rattle.std.proofs.lemmas.List.{length-drop, length-take-le, take_all, drop_all, take-append-drop, drop-drop, get_or-drop}
+use Rattle.std.proofs.lemmas.List.{length-drop, length-take-le, take_all, drop_all, take-append-drop, drop-drop, get_or-drop, get_or_default}
 use Rattle.rdfc_ndegree.specs.Sequences.{Falls, IsStep}
 
 drop-more : (xs : List ℕ) (k j : ℕ) → k + 1 ≡ j → k < length xs → drop k xs ≡ slice_index xs k ∷ drop j xs
@@ -78,14 +78,9 @@ drop-at [] y rest (suc zero) at = refl
 drop-at [] y rest (suc (suc k)) at = absurd (omega (arith, at))
 drop-at (b ∷ bs) y rest (suc k) at = drop-at bs y rest k (omega (arith, at))
 
-get-any : (xs : List ℕ) (k d e : ℕ) → k < length xs → get_or xs k d ≡ get_or xs k e
-get-any [] k d e in' = absurd (omega arith)
-get-any (x ∷ xs) zero d e in' = refl
-get-any (x ∷ xs) (suc k) d e in' = get-any xs k d e (omega arith)
-
 swap-set : (xs : List ℕ) (i j : ℕ) → i < length xs → j < length xs → swap xs i j ≡ set (set xs i (slice_index xs j)) j (slice_index xs i)
 swap-set [] i j low high = refl
-swap-set (x ∷ xs) i j low high = let a = get-any (x ∷ xs) i x 0 low in let b = get-any (x ∷ xs) j x 0 high in λ k. set (set (x ∷ xs) i (b k)) j (a k)
+swap-set (x ∷ xs) i j low high = let a = get_or_default (x ∷ xs) i x 0 low in let b = get_or_default (x ∷ xs) j x 0 high in λ k. set (set (x ∷ xs) i (b k)) j (a k)
 
 module _ (bs : List ℕ) (x : ℕ) (us : List ℕ) (y : ℕ) (vs : List ℕ) (p a : ℕ) (at : p ≡ length bs) (far : a ≡ length (bs ++ y ∷ us)) where
   abbrev whole : List ℕ

@@ -1,10 +1,9 @@
 -- Labelling does not depend on the names of blank nodes, nor on the order of statements.
-use Rattle.std.proofs.Common.{◌≡◌, ◌↔◌, ℕ, List, [], ◌∷◌, ◌++◌, map, map-id, refl, sym, ap, ap₂, ◌∙◌, subst, ⊎_elim, Bool, true, if◌then◌else◌, not, filter, All, Contains, Option, Some, None, option_map, codes}
+use Rattle.std.proofs.Common.{◌≡◌, ◌↔◌, ℕ, List, [], ◌∷◌, ◌++◌, map, map-id, refl, sym, ap, ap₂, ◌∙◌, subst, ⊎_elim, Bool, true, if◌then◌else◌, not, filter, Contains, Option, Some, None, option_map, codes}
 use Rattle.std.specs.List.{AllByRecursion, flat_map, list_any, concat}
 use Rattle.std.specs.List.Sorted.{IsPermutation}
 use Rattle.std.proofs.lemmas.Bool.Decides.{same_from_decides}
 use Rattle.std.proofs.lemmas.List.{map-append}
-use Rattle.std.proofs.lemmas.List.Elements.{All-from_recursion, All-weaker}
 use Rattle.std.proofs.lemmas.List.Sorted.{IsPermutation-sym, IsPermutation-map, Contains-permutation}
 use Rattle.base_types.specs.Order.{rising}
 use Rattle.base_types.proofs.Lists.{Contains-here, Contains-there, Contains-cons_cases, Contains-nil, Contains-map, Contains-from_map, AllByRecursion-contains}
@@ -14,15 +13,16 @@ use Rattle.nquads.specs.Renaming.{same_blank, blanks_of_term, blanks_of_graph, b
 use Rattle.nquads.specs.Spelling.{iri_text}
 use Rattle.nquads.specs.Lines.{term_text, graph_text, line, canonical_text}
 use Rattle.nquads.specs.FirstDegree.{blanks, mentions, about, mark, first_degree_hash}
-use Rattle.nquads.proofs.ReadingElements.{AllDiffer-map}
+use Rattle.nquads.proofs.ReadingElements.{All-from_contains, AllDiffer-map}
 use Rattle.nquads.proofs.ReadingBlanks.{chosen, same_blank-true, same_blank-itself, same_blank-false, rename-rename, rename-itself, blanks_of-rename, to_blanks_in}
 use Rattle.nquads.proofs.ReadingRenamings.{IsDataset-rename, one_to_one-from_Same}
 use Rattle.nquads.proofs.ReadingSame.{line-rename, text_carried}
-use Rattle.rdfc_ndegree.specs.Nodes.{Position, as_subject, as_object, as_graph, Occurrence, AreNodes}
+use Rattle.rdfc_ndegree.specs.Nodes.{Position, as_subject, as_object, as_graph, Occurrence}
 use Rattle.rdfc_ndegree.specs.Issuers.{number, canonical_id}
 use Rattle.rdfc_ndegree.specs.Run.{Result, IsRun, MeetsTie, WorkOver, DepthOver, WithinLimits, HasLabels}
 use Rattle.rdfc_ndegree.specs.Datasets.{occurrence, occurrences_at, occurrences_in, related_in, nodes_of}
-use Rattle.rdfc_ndegree.proofs.CarryBasics.{IsPermutation-filter, IsPermutation-flat_map, IsPermutation-from_elements, SameElements-permutation, Each-left, Each-right, Each-append, Each-filter, Each-map, Each-from_contains, Each-weaker, map-map, map-agree, filter-map, list_any-map, same_blank-decides, AllDiffer-blanks, blanks-StandsIn}
+use Rattle.rdfc_ndegree.proofs.CarryBasics.{IsPermutation-filter, IsPermutation-flat_map, IsPermutation-from_elements, SameElements-permutation, Each-left, Each-right, Each-filter, Each-from_contains, Each-weaker, map-map, map-agree, filter-map, list_any-map}
+use Rattle.rdfc_ndegree.proofs.Lawful.{same_blank-equal, blanks-all, AllDiffer-blanks, related_in-stands}
 use Rattle.rdfc_ndegree.proofs.Carry.{carried, Carries, number-carried, canonical_id-carried}
 use Rattle.rdfc_ndegree.proofs.RunCarry.{result_f, IsRun-carried, MeetsTie-carried, WorkOver-carried, DepthOver-carried, WithinLimits-carried, HasLabels-carried, HasLabels-inside}
 
@@ -48,10 +48,10 @@ line-agree f g s h =
     ∙ ap (λ (z : List ℕ). whole_line (term_text g s.subject) (iri_text s.predicate) (term_text g s.object) z) (graph_agree f g s.graph (Each-right (λ b. f b ≡ g b) (blanks_of_term s.object) (blanks_of_graph s.graph) rest))
 
 -- each blank node of the statement stands in the dataset
-abbrev InPlace : List Statement → Statement → Type 0
+abbrev pub InPlace : List Statement → Statement → Type 0
 InPlace q s = AllByRecursion (StandsIn q) (blanks_of s)
 
-in_place : (q : List Statement) → AllByRecursion (InPlace q) q
+pub in_place : (q : List Statement) → AllByRecursion (InPlace q) q
 in_place q = Each-from_contains (InPlace q) q (λ s m. Each-from_contains (StandsIn q) (blanks_of s) (λ b n. to_blanks_in q s b m n))
 
 pub text-agree : (f g : Blank → List ℕ) (q : List Statement) → ((b : Blank) → StandsIn q b → f b ≡ g b) → canonical_text f q ≡ canonical_text g q
@@ -87,46 +87,15 @@ goes_to : (f : Blank → Blank) (q r : List Statement) → IsPermutation (map (r
 goes_to f q r s a m = Contains-permutation (map f (flat_map blanks_of q)) (flat_map blanks_of r) (f a) (blanks_moved f q r s) (Contains-map f (flat_map blanks_of q) a m)
 
 module _ (q : List Statement) where
-  at_inside : (n : Blank) (p : Position) (text : List ℕ) (bs : List Blank) → AllByRecursion (StandsIn q) bs → AllByRecursion (λ (o : Occurrence Blank). StandsIn q o.blank) (occurrences_at n p text bs)
-  at_inside n p text bs h = Each-map (λ (o : Occurrence Blank). StandsIn q o.blank) (occurrence p text) (filter (λ b. not (same_blank n b)) bs) (Each-filter (StandsIn q) (λ b. not (same_blank n b)) bs h)
-
-  in_inside : (n : Blank) (s : Statement) → InPlace q s → AllByRecursion (λ (o : Occurrence Blank). StandsIn q o.blank) (occurrences_in n s)
-  in_inside n s h =
-      let rest : AllByRecursion (StandsIn q) (blanks_of_term s.object ++ blanks_of_graph s.graph) = Each-right (StandsIn q) (blanks_of_term s.subject) (blanks_of_term s.object ++ blanks_of_graph s.graph) h in
-      let subjects : List (Occurrence Blank) = occurrences_at n as_subject (iri_text s.predicate) (blanks_of_term s.subject) in
-      let objects : List (Occurrence Blank) = occurrences_at n as_object (iri_text s.predicate) (blanks_of_term s.object) in
-      let graphs : List (Occurrence Blank) = occurrences_at n as_graph (iri_text s.predicate) (blanks_of_graph s.graph) in
-      Each-append (λ (o : Occurrence Blank). StandsIn q o.blank) subjects (objects ++ graphs)
-      (at_inside n as_subject (iri_text s.predicate) (blanks_of_term s.subject) (Each-left (StandsIn q) (blanks_of_term s.subject) (blanks_of_term s.object ++ blanks_of_graph s.graph) h))
-      (Each-append (λ (o : Occurrence Blank). StandsIn q o.blank) objects graphs
-      (at_inside n as_object (iri_text s.predicate) (blanks_of_term s.object) (Each-left (StandsIn q) (blanks_of_term s.object) (blanks_of_graph s.graph) rest))
-      (at_inside n as_graph (iri_text s.predicate) (blanks_of_graph s.graph) (Each-right (StandsIn q) (blanks_of_term s.object) (blanks_of_graph s.graph) rest)))
-
-  related_inside : (n : Blank) (ss : List Statement) → AllByRecursion (InPlace q) ss → AllByRecursion (λ (o : Occurrence Blank). StandsIn q o.blank) (flat_map (occurrences_in n) ss)
-  related_inside n [] h = tt
-  related_inside n (s ∷ ss) h = Each-append (λ (o : Occurrence Blank). StandsIn q o.blank) (occurrences_in n s) (flat_map (occurrences_in n) ss) (in_inside n s h.0) (related_inside n ss h.1)
-
-  -- the related blank nodes of a blank node stand in the dataset
-  pub related_in-closed : (n : Blank) → All (λ (o : Occurrence Blank). StandsIn q o.blank) (related_in q n)
-  related_in-closed n = All-from_recursion (λ (o : Occurrence Blank). StandsIn q o.blank) (related_in q n) (related_inside n (about q n) (Each-filter (InPlace q) (mentions n) q (in_place q)))
-
   pub blanks-inside : AllByRecursion (StandsIn q) (blanks q)
-  blanks-inside = Each-from_contains (StandsIn q) (blanks q) (λ b m. (blanks-StandsIn q b).0 m)
-
--- The blank nodes of a dataset have the form of nodes.
-pub nodes_of-lawful : (digest : List ℕ → List ℕ) (q : List Statement) → AreNodes (nodes_of digest q)
-nodes_of-lawful digest q = record {
-  equal = same_blank-decides;
-  differ = AllDiffer-blanks q;
-  closed = λ n m. All-weaker (λ (o : Occurrence Blank). StandsIn q o.blank) (λ (o : Occurrence Blank). Contains (blanks q) o.blank) (λ o d. (blanks-StandsIn q o.blank).1 d) (related_in q n) (related_in-closed q n);
-}
+  blanks-inside = Each-from_contains (StandsIn q) (blanks q) (λ b m. (blanks-all q b).1 m)
 
 module _ (f : Blank → Blank) (q : List Statement) (o : IsOneToOne f q) where
   same-renamed : (a b : Blank) → StandsIn q a → StandsIn q b → same_blank (f a) (f b) ≡ same_blank a b
   same-renamed a b m n =
       same_from_decides {P = a ≡ b} (same_blank (f a) (f b)) (same_blank a b)
       ((λ e. o a b m n (same_blank-true (f a) (f b) e)), (λ e. subst (λ z. same_blank (f a) (f z) ≡ true) e (same_blank-itself (f a))))
-      (same_blank-decides a b)
+      (same_blank-equal a b)
 
   mentions-renamed : (n : Blank) (s : Statement) → StandsIn q n → InPlace q s → mentions (f n) (rename f s) ≡ mentions n s
   mentions-renamed n s d h =
@@ -196,24 +165,24 @@ module _ (digest : List ℕ → List ℕ) (f : Blank → Blank) (q r : List Stat
     injective = λ a b m n e. o a b m n e;
     digest = λ text. refl;
     first = λ n d. first_degree_hash-renamed n d;
-    closed = λ n d. related_in-closed q n;
+    closed = λ n d. All-from_contains (λ (o : Occurrence Blank). StandsIn q o.blank) (related_in q n) (related_in-stands q n);
     related = λ n d. related-renamed n d;
   }
 
   pub renamed-all : IsPermutation (map f (blanks q)) (blanks r)
   renamed-all =
       IsPermutation-from_elements (map f (blanks q)) (blanks r)
-      (AllDiffer-map f (blanks q) (λ a b m n e. o a b ((blanks-StandsIn q a).0 m) ((blanks-StandsIn q b).0 n) e) (AllDiffer-blanks q)) (AllDiffer-blanks r) (λ b. (to b, fro b))
+      (AllDiffer-map f (blanks q) (λ a b m n e. o a b ((blanks-all q a).1 m) ((blanks-all q b).1 n) e) (AllDiffer-blanks q)) (AllDiffer-blanks r) (λ b. (to b, fro b))
     where
       to : (b : Blank) → Contains (map f (blanks q)) b → Contains (blanks r) b
       to b m =
           let a = Contains-from_map f (blanks q) b m in
-          (blanks-StandsIn r b).1 (subst (StandsIn r) a.2 (goes_to f q r s a.0 ((blanks-StandsIn q a.0).0 a.1)))
+          (blanks-all r b).0 (subst (StandsIn r) a.2 (goes_to f q r s a.0 ((blanks-all q a.0).1 a.1)))
 
       fro : (b : Blank) → Contains (blanks r) b → Contains (map f (blanks q)) b
       fro b m =
-          let a = came_from f q r s b ((blanks-StandsIn r b).0 m) in
-          subst (Contains (map f (blanks q))) a.2 (Contains-map f (blanks q) a.0 ((blanks-StandsIn q a.0).1 a.1))
+          let a = came_from f q r s b ((blanks-all r b).1 m) in
+          subst (Contains (map f (blanks q))) a.2 (Contains-map f (blanks q) a.0 ((blanks-all q a.0).0 a.1))
 
   pub IsRun-renamed : (x : Result Blank) → IsRun (nodes_of digest q) x → IsRun (nodes_of digest r) (result_f f x)
   IsRun-renamed = IsRun-carried f (StandsIn q) (nodes_of digest q) (nodes_of digest r) renamed-carries renamed-all (blanks-inside q)
@@ -280,7 +249,7 @@ module _ (f g : Blank → Blank) (q r : List Statement) (u : (b : Blank) → Sta
 
 module _ (digest : List ℕ → List ℕ) (f : Blank → Blank) (q r : List Statement) (o : IsOneToOne f q) (s : IsPermutation (map (rename f) q) r) where
   undone_in : (b : Blank) → StandsIn q b → undo f (blanks q) (f b) ≡ b
-  undone_in b d = undone f (blanks q) b (λ x y m n. o x y ((blanks-StandsIn q x).0 m) ((blanks-StandsIn q y).0 n)) ((blanks-StandsIn q b).1 d)
+  undone_in b d = undone f (blanks q) b (λ x y m n. o x y ((blanks-all q x).1 m) ((blanks-all q y).1 n)) ((blanks-all q b).0 d)
 
   back : Blank → Blank
   back = undo f (blanks q)
@@ -340,7 +309,7 @@ module _ (digest : List ℕ → List ℕ) (q r : List Statement) (e : Same q r) 
 
   -- a blank node keeps its number
   pub Same-number : (c : List Blank) (b : Blank) → HasLabels (nodes_of digest q) c → Contains (blanks q) b → number (nodes_of digest r) (map (applied e.pairs) c) (applied e.pairs b) ≡ number (nodes_of digest q) c b
-  Same-number c b h m = number-renamed digest (applied e.pairs) q r (one_to_one-from_Same q r e) (order-from_Same q r e i j) c b (Same-labels_inside c h) ((blanks-StandsIn q b).0 m)
+  Same-number c b h m = number-renamed digest (applied e.pairs) q r (one_to_one-from_Same q r e) (order-from_Same q r e i j) c b (Same-labels_inside c h) ((blanks-all q b).1 m)
 
   -- and the canonical text is the same
   pub Same-canonical_text : (c : List Blank) → HasLabels (nodes_of digest q) c → canonical_text (canonical_id (nodes_of digest r) (map (applied e.pairs) c)) r ≡ canonical_text (canonical_id (nodes_of digest q) c) q

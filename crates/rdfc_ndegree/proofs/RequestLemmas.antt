@@ -1,21 +1,19 @@
 -- A call over a table answers for the blank nodes of its dataset.
-use Rattle.std.proofs.Common.{◌≡◌, ◌==◌, ◌||◌, ℕ, suc, ◌<◌, List, [], ◌∷◌, ◌++◌, map, length, refl, sym, ap, ◌∙◌, subst, inl, inr, Bool, true, false, cond, Contains, Option, Some, None, option_map, slice_get, append-nil, append_assoc}
+use Rattle.std.proofs.Common.{◌≡◌, ℕ, ◌<◌, List, [], ◌∷◌, ◌++◌, map, length, refl, sym, ap, ◌∙◌, subst, inl, inr, Bool, cond, Contains, Option, Some, None, option_map, slice_get, append-nil, append_assoc}
 use Rattle.std.specs.Prelude.{All}
-use Rattle.std.specs.List.{AllByRecursion, AllZip, cons_option, filter_map, list_any}
-use Rattle.std.proofs.lemmas.Bool.{false≢true}
-use Rattle.std.proofs.lemmas.Bool.Decides.{Decides-eqb}
+use Rattle.std.specs.List.{AllByRecursion, AllZip, cons_option, filter_map}
 use Rattle.std.proofs.lemmas.Option.{get_or_from_slice_get, slice_get-get_or}
 use Rattle.std.proofs.lemmas.List.{map-append}
 use Rattle.std.proofs.lemmas.List.Elements.{All-contains, Contains-append_left, Contains-append_right, Contains-append_cases}
 use Rattle.base_types.specs.Sets.{AllDiffer}
-use Rattle.base_types.proofs.Lists.{Contains-nil, Contains-here, Contains-there, Contains-cons_cases, Contains-map}
+use Rattle.base_types.proofs.Lists.{Contains-nil, Contains-here, Contains-there, Contains-cons_cases}
 use Rattle.digest_mac.specs.Digests.{sha256_digits}
 use Rattle.nquads.specs.Terms.{Blank, Statement}
 use Rattle.nquads.specs.Spelling.{blank_text, spelled}
 use Rattle.nquads.specs.declared.hashes.BlankHash.{BlankHash}
 use Rattle.nquads.specs.declared.quads.TextQuad.{TextQuad}
 use Rattle.nquads.specs.FirstDegree.{AreFirstHashes}
-use Rattle.nquads.proofs.ReadingElements.{AllDiffer-nil, AllDiffer-cons, AllDiffer-head, AllDiffer-tail}
+use Rattle.nquads.proofs.ReadingElements.{AllDiffer-head, AllDiffer-tail}
 use Rattle.rdfc_ndegree.specs.NDegree.{Outcome, IsNDegree}
 use Rattle.rdfc_ndegree.specs.Datasets.{nodes_of}
 use Rattle.rdfc_ndegree.specs.Table.{table_nodes}
@@ -26,26 +24,12 @@ use Rattle.rdfc_ndegree.specs.Requests.{IsSpelledCall, issued, name_at}
 use Rattle.rdfc_ndegree.specs.declared.table.NodeRow.{NodeRow}
 use Rattle.rdfc_ndegree.proofs.Carry.{outcome_f, IsNDegree-carried, IsNDegree-inside}
 use Rattle.rdfc_ndegree.proofs.CarryBasics.{Each-from_contains}
-use Rattle.rdfc_ndegree.proofs.TableCarry.{at, no_blank, table-carries}
+use Rattle.rdfc_ndegree.proofs.TableCarry.{at, no_blank, table-carries, table-length}
 use Rattle.rdfc_ndegree.proofs.BuildLemmas.{number-get, number-below}
-use Rattle.rdfc_ndegree.proofs.TableLemmas.{numbered_blank, got_map, zip-find, length-names}
+use Rattle.rdfc_ndegree.proofs.Tables.{absent-any}
+use Rattle.rdfc_ndegree.proofs.TableLemmas.{differ-from_map, numbered_blank, got_map, zip-find, length-names}
 
 -- ---- the issuer that has named a list without repeats
-
-any-Contains : (c : List ℕ) (n : ℕ) → list_any (λ m. m == n) c ≡ true → Contains c n
-any-Contains [] n e = absurd (false≢true e)
-any-Contains (m ∷ c) n e = go (m == n) refl e (any-Contains c n)
-  where
-    go : (t : Bool) → (m == n) ≡ t → (t || list_any (λ m. m == n) c) ≡ true → (list_any (λ m. m == n) c ≡ true → Contains c n) → Contains (m ∷ c) n
-    go true f e rest = subst (Contains (m ∷ c)) ((Decides-eqb m n).0 f) (Contains-here m c)
-    go false f e rest = Contains-there m c n (rest e)
-
-absent-any : (c : List ℕ) (n : ℕ) → (Contains c n → ⊥) → list_any (λ m. m == n) c ≡ false
-absent-any c n free = go (list_any (λ m. m == n) c) refl
-  where
-    go : (t : Bool) → list_any (λ m. m == n) c ≡ t → t ≡ false
-    go true e = absurd (free (any-Contains c n e))
-    go false e = refl
 
 issued-append : (c ns : List ℕ) → AllDiffer ns → ((n : ℕ) → Contains ns n → Contains c n → ⊥) → issued c ns ≡ c ++ ns
 issued-append c [] a free = sym (append-nil c)
@@ -59,10 +43,6 @@ issued-append c (n ∷ ns) a free =
     ap (λ t. issued (cond t c (c ++ n ∷ [])) ns) none
     ∙ issued-append (c ++ n ∷ []) ns (AllDiffer-tail n ns a) apart
     ∙ append_assoc c (n ∷ []) ns
-
-differ-unmap : {X Y : Type 0} (f : X → Y) (xs : List X) → AllDiffer (map f xs) → AllDiffer xs
-differ-unmap f [] a = AllDiffer-nil
-differ-unmap f (x ∷ xs) a = AllDiffer-cons x xs (λ m. AllDiffer-head (f x) (map f xs) a (Contains-map f xs x m)) (differ-unmap f xs (AllDiffer-tail (f x) (map f xs) a))
 
 -- ---- numbers for texts, and texts for numbers
 
@@ -80,10 +60,6 @@ rows-named q [] all [] z = refl
 rows-named q [] all (r ∷ rows) z = absurd z
 rows-named q (b ∷ bs) all [] z = absurd z
 rows-named q (b ∷ bs) all (r ∷ rows) z = let first = z.0.name in let rest = rows-named q bs all rows z.1 in λ j. first j ∷ rest j
-
-length-map : {X Y : Type 0} (f : X → Y) (xs : List X) → length (map f xs) ≡ length xs
-length-map f [] = refl
-length-map f (x ∷ xs) = ap suc (length-map f xs)
 
 texts-are : (q : List Statement) (bs : List Blank) (rows : List NodeRow) → AllZip (IsRowOf q bs) bs rows → (ks : List ℕ) → AllByRecursion (λ k. k < length bs) ks → filter_map (name_at rows) ks ≡ map blank_text (map (at bs) ks)
 texts-are q bs rows z [] h = refl
@@ -104,9 +80,6 @@ pub record IsCarried (q : List Statement) (n : Blank) (c i : List Blank) (rows :
   pub node_at : at nodes node ≡ n
   pub canonical_at : map (at nodes) canonical ≡ c
   pub issuer_at : map (at nodes) issuer ≡ i
-
-long : (q : List Statement) (bs : List Blank) (rows : List NodeRow) → IsTableOf q bs rows → length bs ≡ length rows
-long q bs rows t = sym (length-map blank_text bs) ∙ ap length (sym (rows-named q bs bs rows t.each)) ∙ length-names rows
 
 module _ {q : List Statement} {n : Blank} {c i : List Blank} {rows : List NodeRow} {canonical : List ℕ} {node : ℕ} {issuer : List ℕ} (s : IsCarried q n c i rows canonical node issuer) where
   record IsThere (o : Outcome ℕ) : Type 0 where
@@ -130,7 +103,7 @@ module _ {q : List Statement} {n : Blank} {c i : List Blank} {rows : List NodeRo
   answers {named = named} a is =
       let t = there a.outcome a.call in
       let e = a.issuer_is in
-      let same = long q s.nodes rows s.table in
+      let same = table-length q s.nodes rows s.table in
       let inside : AllByRecursion (λ k. k < length s.nodes) named = subst (λ m. AllByRecursion (λ k. k < m) named) (sym same) (subst (AllByRecursion (λ k. k < length rows)) (sym e) t.inside) in (
         map (at s.nodes) named,
         is ∙ texts-are q s.nodes rows s.table.each named inside,
@@ -186,7 +159,7 @@ carried_call q n c i firsts rows canonical node number issuer canonical_texts is
     let each_i : AllByRecursion (Contains bs) i = Each-from_contains (Contains bs) i (λ b m. there b (Contains-append_right c (i ++ n ∷ []) b (Contains-append_left i (n ∷ []) b m))) in
     let c_numbers : List ℕ = filter_map (number_among (names_of rows)) canonical_texts in
     let c_are : map (at bs) c_numbers ≡ c = (λ j. map (at bs) (filter_map (number_among (names j)) (cs j))) ∙ numbers-are bs c each_c in
-    let c_is : canonical ≡ c_numbers = canonical_is ∙ issued-append [] c_numbers (differ-unmap (at bs) c_numbers (subst AllDiffer (sym c_are) differ)) (λ k m e. Contains-nil k e) in
+    let c_is : canonical ≡ c_numbers = canonical_is ∙ issued-append [] c_numbers (differ-from_map (at bs) c_numbers (subst AllDiffer (sym c_are) differ)) (λ k m e. Contains-nil k e) in
     let i_are : map (at bs) (filter_map (number_among (names_of rows)) issuer_texts) ≡ i = (λ j. map (at bs) (filter_map (number_among (names j)) (is j))) ∙ numbers-are bs i each_i in
     let k_is : number_among (map blank_text bs) (blank_text n) ≡ Some number = (λ j. number_among (sym names j) (sym node_is j)) ∙ number_is in
     let got : slice_get bs number ≡ Some n = got_map bs number n (number-get (map blank_text bs) (blank_text n) number k_is) in

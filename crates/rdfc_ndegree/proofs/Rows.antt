@@ -1,7 +1,8 @@
 -- The rows of a table as nodes: which are listed, and how many are left to be named.
-use Rattle.std.proofs.Common.{ℕ, ◌<◌, ◌≤◌, List, [], ◌∷◌, ◌++◌, length, get_or, map, All, Contains, Bool, true, false, sym, ap, subst, ⊎_elim, arith, if◌then◌else◌}
-use Rattle.std.proofs.lemmas.List.Elements.{All-contains, All-push, All-head, All-tail, Contains-get_or}
+use Rattle.std.proofs.Common.{ℕ, ◌<◌, ◌≤◌, List, [], ◌∷◌, ◌++◌, length, map, All, Contains, Bool, true, false, sym, ap, subst, ⊎_elim, arith, if◌then◌else◌}
+use Rattle.std.proofs.lemmas.List.Elements.{All-contains, All-push, All-head, All-tail}
 use Rattle.base_types.proofs.Lists.{Contains-from_map}
+use Rattle.nquads.proofs.ReadingElements.{All-from_contains}
 use Rattle.rdfc_ndegree.specs.Issuers.{has}
 use Rattle.rdfc_ndegree.specs.Kept.{group_in}
 use Rattle.rdfc_ndegree.specs.declared.related.NodeGroup.{NodeGroup}
@@ -13,12 +14,10 @@ use Rattle.rdfc_ndegree.specs.Table.{table_nodes}
 use Rattle.rdfc_ndegree.specs.Lack.{lack, Grows, AreListed}
 use Rattle.rdfc_ndegree.specs.Evaluations.{AnswersChoice}
 use Rattle.rdfc_ndegree.specs.Answers.{AnswersCall}
-use Rattle.rdfc_ndegree.proofs.TableCarry.{table-all, numbers-contains}
+use Rattle.rdfc_ndegree.proofs.Tables.{table-all}
+use Rattle.rdfc_ndegree.proofs.TableCarry.{numbers-contains}
 use Rattle.rdfc_ndegree.proofs.Grow.{IsChoice-grows, IsNDegree-grows}
 use Rattle.rdfc_ndegree.proofs.Exists.{lack-grows, walk-less, newly_named-member}
-
-All-from_contains : (P : ℕ → Type 0) (xs : List ℕ) → ((x : ℕ) → Contains xs x → P x) → All P xs
-All-from_contains P xs h k d lt = h (get_or xs k d) (Contains-get_or xs k d lt)
 
 module _ (rows : List NodeRow) where
   pub row-listed : (n : ℕ) → n < length rows → Contains (table_nodes rows).all n

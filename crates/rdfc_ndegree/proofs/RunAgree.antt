@@ -6,9 +6,10 @@ use Rattle.std.specs.List.Sorted.{IsPermutation, IsStrictlySortedBy}
 use Rattle.std.specs.Cmp.Lexicographic.{on_texts}
 use Rattle.std.specs.Ordering.{is_le, on}
 use Rattle.std.specs.declared.cmp.Ordering.TheVariants.{Less}
+use Rattle.std.proofs.lemmas.Bool.{or_from, or_parts}
 use Rattle.std.proofs.lemmas.Map.Lookups.{exact_bytes}
 use Rattle.std.proofs.lemmas.List.Elements.{All-contains}
-use Rattle.std.proofs.lemmas.List.Sorted.{IsPermutation-sym, IsPermutation-map, Contains-permutation, sum_by-IsPermutation}
+use Rattle.std.proofs.lemmas.List.Sorted.{IsPermutation-sym, IsPermutation-map, sum_by-IsPermutation}
 use Rattle.base_types.specs.Order.{is_upto}
 use Rattle.base_types.specs.Sets.{SameElements}
 use Rattle.base_types.proofs.Lists.{Contains-here, Contains-there, SameElements-trans, strictly_sorted-unique}
@@ -17,8 +18,9 @@ use Rattle.rdfc_ndegree.specs.Nodes.{Nodes}
 use Rattle.rdfc_ndegree.specs.Groups.{Group}
 use Rattle.rdfc_ndegree.specs.NDegree.{Outcome, IsNDegree}
 use Rattle.rdfc_ndegree.specs.Run.{first_groups, alone, lacking, take_issuer, take_issuers, InHashOrder, results_tie, Result, Rounds, IsRun, MeetsTie, HasLabels}
-use Rattle.rdfc_ndegree.proofs.AgreeBasics.{or_left, or_right, or_false, same_tests, bytes_eq-true, bytes_eq-same, once, count_by-cons, count_by-two, count_by-none, AllZip-join}
+use Rattle.rdfc_ndegree.proofs.AgreeBasics.{same_tests, bytes_eq-true, bytes_eq-same, once, count_by-cons, count_by-two, count_by-none, AllZip-join}
 use Rattle.rdfc_ndegree.proofs.Agree.{IsAgreed, IsNDegree-agrees}
+use Rattle.rdfc_ndegree.proofs.CarryBasics.{SameElements-permutation}
 
 -- ---- the results of one group
 
@@ -53,15 +55,15 @@ results_follow [] [] z e = record { no_tie = refl; same = refl }
 results_follow [] (p ∷ ps) z e = absurd z
 results_follow (o ∷ os) [] z e = absurd z
 results_follow (o ∷ os) (p ∷ ps) z e =
-    let front : (o.tie || list_any (has_hash o.hash) os) ≡ false = or_left (o.tie || list_any (has_hash o.hash) os) (results_tie os) e in
-    let tie : o.tie ≡ false = or_left o.tie (list_any (has_hash o.hash) os) front in
-    let any : list_any (has_hash o.hash) os ≡ false = or_right o.tie (list_any (has_hash o.hash) os) front in
-    let later : ResultsFollow os ps = results_follow os ps z.1 (or_right (o.tie || list_any (has_hash o.hash) os) (results_tie os) e) in
+    let front : (o.tie || list_any (has_hash o.hash) os) ≡ false = (or_parts (o.tie || list_any (has_hash o.hash) os) (results_tie os) e).0 in
+    let tie : o.tie ≡ false = (or_parts o.tie (list_any (has_hash o.hash) os) front).0 in
+    let any : list_any (has_hash o.hash) os ≡ false = (or_parts o.tie (list_any (has_hash o.hash) os) front).1 in
+    let later : ResultsFollow os ps = results_follow os ps z.1 (or_parts (o.tie || list_any (has_hash o.hash) os) (results_tie os) e).1 in
     let equal = z.0.1 tie in
     let none : list_any (has_hash p.hash) ps ≡ false =
     any_bare p.hash ps ∙ ap (list_any (bare_has_hash p.hash)) (sym later.same) ∙ sym (any_bare p.hash os) ∙ ap (λ h. list_any (has_hash h) os) (sym equal.0) ∙ any in
     record {
-      no_tie = or_false (p.tie || list_any (has_hash p.hash) ps) (results_tie ps) (or_false p.tie (list_any (has_hash p.hash) ps) (sym z.0.0 ∙ tie) none) later.no_tie;
+      no_tie = or_from (p.tie || list_any (has_hash p.hash) ps) (results_tie ps) (or_from p.tie (list_any (has_hash p.hash) ps) (sym z.0.0 ∙ tie) none) later.no_tie;
       same = λ i. bare_of (equal.0 i) (equal.1 i) ∷ later.same i;
     }
 
@@ -69,10 +71,10 @@ results_follow (o ∷ os) (p ∷ ps) z e =
 
 results_few : {B : Type 0} (os : List (Outcome B)) → results_tie os ≡ false → (h : List ℕ) → count_by (has_hash h) os ≤ 1
 results_few [] e h = omega arith
-results_few (o ∷ os) e h = go (bytes_eq o.hash h) refl (results_few os (or_right (o.tie || list_any (has_hash o.hash) os) (results_tie os) e) h)
+results_few (o ∷ os) e h = go (bytes_eq o.hash h) refl (results_few os (or_parts (o.tie || list_any (has_hash o.hash) os) (results_tie os) e).1 h)
   where
     any : list_any (has_hash o.hash) os ≡ false
-    any = or_right o.tie (list_any (has_hash o.hash) os) (or_left (o.tie || list_any (has_hash o.hash) os) (results_tie os) e)
+    any = (or_parts o.tie (list_any (has_hash o.hash) os) (or_parts (o.tie || list_any (has_hash o.hash) os) (results_tie os) e).0).1
 
     whole : count_by (has_hash h) (o ∷ os) ≡ once (bytes_eq o.hash h) + count_by (has_hash h) os
     whole = count_by-cons (has_hash h) o os
@@ -110,9 +112,6 @@ few_moved : {B : Type 0} (os ps : List (Outcome B)) → IsPermutation os ps → 
 few_moved os ps moved few h =
     let same : count_by (has_hash h) ps ≡ count_by (has_hash h) os = sum_by-IsPermutation (λ o. once (has_hash h o)) os ps moved in
     omega (arith, few h)
-
-SameElements-permutation : {X : Type 0} (xs ys : List X) → IsPermutation xs ys → SameElements xs ys
-SameElements-permutation xs ys p x = ((λ c. Contains-permutation xs ys x p c), (λ c. Contains-permutation ys xs x (IsPermutation-sym xs ys p) c))
 
 sorted_same : {B : Type 0} (os ps us vs : List (Outcome B)) → ResultsFollow os ps → results_tie os ≡ false → IsPermutation os us → IsPermutation ps vs → InHashOrder us → InHashOrder vs → map bare us ≡ map bare vs
 sorted_same {B} os ps us vs f e moved turned up down =

@@ -1,9 +1,8 @@
 -- A run is carried along a map that is one to one on the nodes that are in play.
 use Rattle.std.proofs.Common.{◌≡◌, ℕ, ◌+◌, max, List, [], ◌∷◌, ◌++◌, map, refl, sym, ap, ap₂, ◌∙◌, subst, ⊎_elim, arith, Bool, true, false, not, ◌||◌, bytes_eq}
+use Rattle.std.specs.Cmp.Lexicographic.{nat_list_eq_equiv}
 use Rattle.std.specs.List.{AllByRecursion, AllZip, list_any}
 use Rattle.std.specs.List.Sorted.{IsPermutation}
-use Rattle.std.proofs.lemmas.Bool.Decides.{same_from_decides}
-use Rattle.std.proofs.lemmas.Slice.Eq.{bytes_eq-Decides}
 use Rattle.std.proofs.lemmas.List.{map-append}
 use Rattle.std.proofs.lemmas.List.Elements.{All-map}
 use Rattle.std.proofs.lemmas.List.Sorted.{IsPermutation-refl, IsPermutation-sym, IsPermutation-trans, IsPermutation-cons, IsPermutation-middle, IsPermutation-map, Contains-permutation, length_permutation, list_any-IsPermutation}
@@ -21,9 +20,6 @@ abbrev pub result_f : {A B : Type 0} → (A → B) → Result A → Result B
 result_f f r = record { issuer = map f r.issuer; tie = r.tie; work = r.work; depth = r.depth }
 
 -- ---- what the outcomes of a round give in any order
-
-bytes_eq-turned : (x y : List ℕ) → bytes_eq x y ≡ bytes_eq y x
-bytes_eq-turned x y = same_from_decides {P = x ≡ y} (bytes_eq x y) (bytes_eq y x) (bytes_eq-Decides x y) ((λ e. sym ((bytes_eq-Decides y x).0 e)), (λ e. (bytes_eq-Decides y x).1 (sym e)))
 
 or_exchanged : (a b x l m r : Bool) → a || (x || l) || (b || m || r) ≡ b || (x || m) || (a || l || r)
 or_exchanged true true x l m r = refl
@@ -57,7 +53,7 @@ module _ {B : Type 0} where
   counted_exchange o p os = record {
     order = IsPermutation-middle (o ∷ []) p os;
     tie =
-        ap (λ b. o.tie || (b || list_any (λ q. bytes_eq q.hash o.hash) os) || results_tie (p ∷ os)) (bytes_eq-turned p.hash o.hash)
+        ap (λ b. o.tie || (b || list_any (λ q. bytes_eq q.hash o.hash) os) || results_tie (p ∷ os)) (nat_list_eq_equiv.symm p.hash o.hash)
         ∙ or_exchanged o.tie p.tie (bytes_eq o.hash p.hash) (list_any (λ q. bytes_eq q.hash o.hash) os) (list_any (λ q. bytes_eq q.hash p.hash) os) (results_tie os);
     work = omega arith;
     depth = omega arith;
@@ -68,6 +64,9 @@ module _ {B : Type 0} where
       through_permutation Counted (λ os. record { order = IsPermutation-refl os; tie = refl; work = refl; depth = refl })
       (λ os ps qs a b. record { order = IsPermutation-trans os ps qs a.order b.order; tie = a.tie ∙ b.tie; work = a.work ∙ b.work; depth = a.depth ∙ b.depth })
       counted_under counted_exchange
+
+  pub results_tie-permuted : (os ps : List (Outcome B)) → IsPermutation os ps → results_tie os ≡ results_tie ps
+  results_tie-permuted os ps moved = (counted os ps moved).tie
 
 module _ {A B : Type 0} (f : A → B) where
   tie_kept : (os : List (Outcome A)) → results_tie (map (outcome_f f) os) ≡ results_tie os

@@ -7,7 +7,6 @@ use Rattle.std.specs.Cmp.Lexicographic.{nat_list_cmp_total}
 use Rattle.std.specs.Ordering.{is_le, nat_cmp, ordering_reverse}
 use Rattle.std.specs.declared.cmp.Ordering.TheVariants.{Less}
 use Rattle.std.proofs.lemmas.Bool.Decides.{nat_tests}
-use Rattle.std.proofs.lemmas.Map.Lookups.{exact_bytes}
 use Rattle.std.proofs.lemmas.List.{reverse-append}
 use Rattle.std.proofs.lemmas.List.Sums.{sum_by-cons}
 use Rattle.std.proofs.lemmas.List.Kept.{IsStrictlySortedBy-filter}
@@ -18,7 +17,10 @@ use Rattle.base_types.proofs.Lists.{Contains-here, Contains-there, Contains-cons
 use Rattle.base_types.proofs.Orders.{text_cmp, is_upto-cmp, by_cmp, is_upto-refl, is_upto-antisymmetric, is_upto-transitive}
 use Rattle.base_types.proofs.Rising.{rising-rises, rising-same}
 use Rattle.rdfc_ndegree.specs.NDegree.{AreArrangements}
+use Rattle.rdfc_ndegree.proofs.Basics.{Contains-filter, Contains-from_filter, Contains-flat_map, Contains-from_flat_map}
+use Rattle.rdfc_ndegree.proofs.CarryBasics.{Each-from_contains}
 use Rattle.rdfc_ndegree.specs.Sequences.{put_everywhere, orders_of, left_from, Falls, IsStep, Advances}
+use Rattle.rdfc_ndegree.proofs.Grouping.{less-upto}
 
 -- ---- how often a number stands in a list
 
@@ -91,20 +93,6 @@ Alike-permutes (x ∷ xs) ys same =
 
 -- ---- the list in every order
 
-Contains-append_left : {X : Type 0} (xs ys : List X) (x : X) → Contains xs x → Contains (xs ++ ys) x
-Contains-append_left [] ys x c = absurd (Contains-nil x c)
-Contains-append_left (z ∷ zs) ys x c = ⊎_elim (λ e. subst (Contains (z ∷ (zs ++ ys))) e (Contains-here z (zs ++ ys))) (λ d. Contains-there z (zs ++ ys) x (Contains-append_left zs ys x d)) (Contains-cons_cases z zs x c)
-
-Contains-append_right : {X : Type 0} (xs ys : List X) (x : X) → Contains ys x → Contains (xs ++ ys) x
-Contains-append_right [] ys x c = c
-Contains-append_right (z ∷ zs) ys x c = Contains-there z (zs ++ ys) x (Contains-append_right zs ys x c)
-
-Contains-append_cases : {X : Type 0} (xs ys : List X) (x : X) → Contains (xs ++ ys) x → Contains xs x ⊎ Contains ys x
-Contains-append_cases [] ys x c = inr c
-Contains-append_cases (z ∷ zs) ys x c =
-    ⊎_elim (λ e. inl (subst (Contains (z ∷ zs)) e (Contains-here z zs)))
-    (λ d. ⊎_elim (λ f. inl (Contains-there z zs x f)) (λ g. inr g) (Contains-append_cases zs ys x d)) (Contains-cons_cases z (zs ++ ys) x c)
-
 everywhere-moved : (x : ℕ) (ys zs : List ℕ) → Contains (put_everywhere x ys) zs → IsPermutation (x ∷ ys) zs
 everywhere-moved x [] zs c = ⊎_elim (λ e. subst (IsPermutation (x ∷ [])) e (IsPermutation-refl (x ∷ []))) (λ d. absurd (Contains-nil zs d)) (Contains-cons_cases (x ∷ []) [] zs c)
 everywhere-moved x (y ∷ ys) zs c =
@@ -119,22 +107,11 @@ everywhere-there x [] [] = Contains-here (x ∷ []) []
 everywhere-there x [] (v ∷ vs) = Contains-here (x ∷ (v ∷ vs)) (map (λ ws. v ∷ ws) (put_everywhere x vs))
 everywhere-there x (u ∷ us) vs = Contains-there (x ∷ (u ∷ (us ++ vs))) (map (λ ws. u ∷ ws) (put_everywhere x (us ++ vs))) (u ∷ (us ++ x ∷ vs)) (Contains-map (λ ws. u ∷ ws) (put_everywhere x (us ++ vs)) (us ++ x ∷ vs) (everywhere-there x us vs))
 
-flat-there : (x : ℕ) (pss : List (List ℕ)) (ps q : List ℕ) → Contains pss ps → Contains (put_everywhere x ps) q → Contains (flat_map (put_everywhere x) pss) q
-flat-there x [] ps q c d = absurd (Contains-nil ps c)
-flat-there x (rs ∷ pss) ps q c d =
-    ⊎_elim (λ e. Contains-append_left (put_everywhere x rs) (flat_map (put_everywhere x) pss) q (subst (λ ts. Contains (put_everywhere x ts) q) (sym e) d))
-    (λ f. Contains-append_right (put_everywhere x rs) (flat_map (put_everywhere x) pss) q (flat-there x pss ps q f d)) (Contains-cons_cases rs pss ps c)
-
-flat-from : (x : ℕ) (pss : List (List ℕ)) (q : List ℕ) → Contains (flat_map (put_everywhere x) pss) q → (ps : List ℕ) × Contains pss ps × Contains (put_everywhere x ps) q
-flat-from x [] q c = absurd (Contains-nil q c)
-flat-from x (rs ∷ pss) q c =
-    ⊎_elim (λ d. (rs, Contains-here rs pss, d)) (λ d. let found = flat-from x pss q d in (found.0, Contains-there rs pss found.0 found.1, found.2)) (Contains-append_cases (put_everywhere x rs) (flat_map (put_everywhere x) pss) q c)
-
 orders-moved : (xs q : List ℕ) → Contains (orders_of xs) q → IsPermutation xs q
 unfolding orders_of
 orders-moved [] q c = ⊎_elim (λ e. subst (IsPermutation []) e (IsPermutation-refl [])) (λ d. absurd (Contains-nil q d)) (Contains-cons_cases [] [] q c)
 orders-moved (x ∷ xs) q c =
-    let found = flat-from x (orders_of xs) q c in
+    let found = Contains-from_flat_map (put_everywhere x) (orders_of xs) q c in
     IsPermutation-trans (x ∷ xs) (x ∷ found.0) q (IsPermutation-cons x xs found.0 (orders-moved xs found.0 found.1)) (everywhere-moved x found.0 q found.2)
 
 orders-there : (xs q : List ℕ) → Alike xs q → Contains (orders_of xs) q
@@ -148,7 +125,7 @@ orders-there (x ∷ xs) q same =
     let c : once z x + times z xs ≡ times z q = same z in
     let d : times z q ≡ once z x + times z (p.before ++ p.after) = ap (times z) p.is ∙ times-middle z x p.before p.after in
     omega (arith, c, d) in
-    subst (Contains (flat_map (put_everywhere x) (orders_of xs))) (sym p.is) (flat-there x (orders_of xs) (p.before ++ p.after) (p.before ++ x ∷ p.after) (orders-there xs (p.before ++ p.after) rest) (everywhere-there x p.before p.after))
+    subst (Contains (flat_map (put_everywhere x) (orders_of xs))) (sym p.is) (Contains-flat_map (put_everywhere x) (orders_of xs) (p.before ++ p.after) (p.before ++ x ∷ p.after) (orders-there xs (p.before ++ p.after) rest) (everywhere-there x p.before p.after))
 
 orders-exact : (xs q : List ℕ) → Contains (orders_of xs) q ↔ IsPermutation xs q
 orders-exact xs q = (λ c. orders-moved xs q c, λ m. orders-there xs q (Alike-permutation xs q m))
@@ -328,22 +305,6 @@ module _ (x : ℕ) (us : List ℕ) (y : ℕ) (vs : List ℕ) (down : Falls (us +
 
 -- ---- those that are left
 
-filter-in : {X : Type 0} (p : X → Bool) (xs : List X) (x : X) → p x ≡ true → Contains xs x → Contains (filter p xs) x
-filter-in p [] x e c = absurd (Contains-nil x c)
-filter-in p (y ∷ ys) x e c = go (p y) refl (λ d. filter-in p ys x e d)
-  where
-    go : (b : Bool) → p y ≡ b → (Contains ys x → Contains (filter p ys) x) → Contains (cond b (y ∷ filter p ys) (filter p ys)) x
-    go true f rest = ⊎_elim (λ s. subst (Contains (y ∷ filter p ys)) s (Contains-here y (filter p ys))) (λ d. Contains-there y (filter p ys) x (rest d)) (Contains-cons_cases y ys x c)
-    go false f rest = ⊎_elim (λ s. let g : p y ≡ true = subst (λ z. p z ≡ true) (sym s) e in absurd (cc)) (λ d. rest d) (Contains-cons_cases y ys x c)
-
-filter-out : {X : Type 0} (p : X → Bool) (xs : List X) (x : X) → Contains (filter p xs) x → (p x ≡ true) × Contains xs x
-filter-out p [] x c = absurd (Contains-nil x c)
-filter-out p (y ∷ ys) x c = go (p y) refl c (λ d. filter-out p ys x d)
-  where
-    go : (b : Bool) → p y ≡ b → Contains (cond b (y ∷ filter p ys) (filter p ys)) x → (Contains (filter p ys) x → (p x ≡ true) × Contains ys x) → (p x ≡ true) × Contains (y ∷ ys) x
-    go true f c rest = ⊎_elim (λ s. (subst (λ z. p z ≡ true) s f, subst (Contains (y ∷ ys)) s (Contains-here y ys))) (λ d. let r = rest d in (r.0, Contains-there y ys x r.1)) (Contains-cons_cases y (filter p ys) x c)
-    go false f c rest = let r = rest c in (r.0, Contains-there y ys x r.1)
-
 sequences : List ℕ → List (List ℕ)
 sequences p = rising (orders_of p)
 
@@ -357,21 +318,9 @@ left-sorted p q = IsStrictlySortedBy-filter text_cmp (is_upto p) (rising (orders
 left-exact : (p q : List ℕ) → Contains (left_from false p) q ↔ (IsPermutation p q × (is_upto p q ≡ true))
 unfolding sequences
 left-exact p q = (
-  λ c. let f = filter-out (is_upto p) (rising (orders_of p)) q c in ((sequences-exact p q).0 f.1, f.0),
-  λ m. filter-in (is_upto p) (rising (orders_of p)) q m.1 ((sequences-exact p q).1 m.0),
+  λ c. let f = Contains-from_filter (is_upto p) (rising (orders_of p)) q c in ((sequences-exact p q).0 f.0, f.1),
+  λ m. Contains-filter (is_upto p) (rising (orders_of p)) q ((sequences-exact p q).1 m.0) m.1,
 )
-
-all-contained : {X : Type 0} (P : X → Type 0) (xs : List X) → ((x : X) → Contains xs x → P x) → AllByRecursion P xs
-all-contained P [] each = tt
-all-contained P (x ∷ xs) each = (each x (Contains-here x xs), all-contained P xs (λ y c. each y (Contains-there x xs y c)))
-
-less-upto : (t u v : List ℕ) → text_cmp t u ≡ Less → is_upto u v ≡ true → text_cmp t v ≡ Less
-less-upto t u v less upto =
-    let a = is_upto-cmp u v in
-    by_cmp (text_cmp t v ≡ Less) u v
-    (λ f. nat_list_cmp_total.trans t u v less f)
-    (λ f. subst (λ w. text_cmp t w ≡ Less) (exact_bytes u v f) less)
-    (λ f. let b = ap is_le f in absurd (cc))
 
 not-back : (t u : List ℕ) → is_upto u t ≡ false → text_cmp t u ≡ Less
 not-back t u no' =
@@ -390,7 +339,7 @@ left-next p q alike less next = strictly_sorted-unique nat_list_cmp_total (left_
     moved = Alike-permutes p q alike
 
     below : AllByRecursion (λ r. text_cmp p r ≡ Less) (left_from false q)
-    below = all-contained (λ r. text_cmp p r ≡ Less) (left_from false q) (λ r c. less-upto p q r less ((left-exact q r).0 c).1)
+    below = Each-from_contains (λ r. text_cmp p r ≡ Less) (left_from false q) (λ r c. less-upto p q r less ((left-exact q r).0 c).1)
 
     same : SameElements (left_from false p) (p ∷ left_from false q)
     same r = (

@@ -1,6 +1,7 @@
 -- How far an n-degree call has come: the start, a step and the end of each loop, and how a fault in mid-run
 -- is one of a whole run.
 use Rattle.std.proofs.Common.{◌≡◌, ℕ, ◌+◌, ◌<◌, ◌≤◌, max, List, [], ◌∷◌, ◌++◌, All, Contains, Bool, true, false, ◌||◌, if◌then◌else◌, ◌==◌, nat_lt, refl, sym, ap, ◌∙◌, subst, ⊎_elim, arith, append_assoc, append-nil}
+use Rattle.std.proofs.Math.Bool.{or-false, or_assoc}
 use Rattle.std.specs.List.{AllZip, list_any, starts_with}
 use Rattle.std.proofs.lemmas.List.Elements.{Contains-append_right}
 use Rattle.base_types.specs.Order.{is_upto}
@@ -27,14 +28,6 @@ pub same_fault : {limits limits' : Limits} {over over' deep deep' : ℕ → Type
 same_fault same f g (fault.TooMuchWork n) h = (h.0 ∙ ap (λ (l : Limits). l.work) same, f n h.1)
 same_fault same f g (fault.TooDeep n) h = (h.0 ∙ ap (λ (l : Limits). l.depth) same, g n h.1)
 same_fault same f g fault.Memory h = tt
-
-or_none : (b : Bool) → (b || false) ≡ b
-or_none true = refl
-or_none false = refl
-
-or_assoc : (a b d : Bool) → (a || (b || d)) ≡ ((a || b) || d)
-or_assoc true b d = refl
-or_assoc false b d = refl
 
 noted : (b : Bool) (ties us : List (List ℕ)) (path : List ℕ) → ties ++ (if b then path ∷ us else us) ≡ (if b then ties ++ path ∷ [] else ties) ++ us
 noted true ties us path = sym (append_assoc ties (path ∷ []) us)
@@ -64,7 +57,7 @@ module _ {B : Type 0} where
 
   joining-more : (tie : Bool) (work deep : ℕ) (x : Choice B) (o : Outcome B) → joining tie work deep (outcome_more x o) ≡ joining (tie || x.tie) (work + x.work) (max deep x.depth) o
   joining-more tie work deep x o =
-      let t = or_assoc tie x.tie o.tie in
+      let t = sym (or_assoc tie x.tie o.tie) in
       let w : work + (x.work + o.work) ≡ (work + x.work) + o.work = omega arith in
       let d : max deep (max x.depth o.depth) ≡ max (max deep x.depth) o.depth = omega arith in
       λ i. record { hash = o.hash; issuer = o.issuer; tie = t i; work = w i; depth = d i }
@@ -293,7 +286,7 @@ module _ {B : Type 0} (v : Nodes B) (c : List B) where
         call = call-fold v c n i (one_deeper inner) record { inner = inner; groups = k.goes_on (outcome_end v text now) refl; is = refl };
         hash_is = refl;
         issuer_is = refl;
-        tie_is = sym (or_none tie);
+        tie_is = sym (or-false tie);
         spent = omega arith;
         within = omega arith;
       }

@@ -22,34 +22,13 @@ use Rattle.rdfc_ndegree.specs.Table.{numbers_below, occurrence_of, first_in, rel
 use Rattle.rdfc_ndegree.specs.TableOf.{IsOccurrence, IsRowOf, IsTableOf}
 use Rattle.rdfc_ndegree.specs.declared.table.Related.{Related}
 use Rattle.rdfc_ndegree.specs.declared.table.NodeRow.{NodeRow}
-use Rattle.rdfc_ndegree.proofs.CarryBasics.{AllDiffer-permutation, IsPermutation-from_elements, Each-from_contains, AllDiffer-blanks, blanks-StandsIn}
+use Rattle.rdfc_ndegree.proofs.CarryBasics.{AllDiffer-permutation, IsPermutation-from_elements, Each-from_contains}
+use Rattle.rdfc_ndegree.proofs.Lawful.{blanks-all, AllDiffer-blanks}
 use Rattle.rdfc_ndegree.specs.Issuers.{number, canonical_id}
 use Rattle.rdfc_ndegree.specs.NDegree.{Outcome, IsNDegree}
 use Rattle.rdfc_ndegree.specs.Run.{Result, IsRun, MeetsTie, WorkOver, DepthOver, WithinLimits, HasLabels}
 use Rattle.rdfc_ndegree.proofs.Carry.{carried, outcome_f, Carries, Carries-back, all-back, number-carried, canonical_id-carried, IsNDegree-carried}
 use Rattle.rdfc_ndegree.proofs.RunCarry.{result_f, IsRun-carried, IsRun-inside, MeetsTie-carried, WorkOver-carried, DepthOver-carried, WithinLimits-carried, HasLabels-carried}
-
--- ---- the nodes of a table
-
-pub table-all : (rows : List NodeRow) → (table_nodes rows).all ≡ numbers_below (length rows)
-unfolding table_nodes
-table-all rows = refl
-
-pub table-same : (rows : List NodeRow) → (table_nodes rows).same ≡ ◌==◌
-unfolding table_nodes
-table-same rows = refl
-
-pub table-digest : (rows : List NodeRow) → (table_nodes rows).digest ≡ sha256_digits
-unfolding table_nodes
-table-digest rows = refl
-
-pub table-first : (rows : List NodeRow) (n : ℕ) → (table_nodes rows).first n ≡ first_in (slice_get rows n)
-unfolding table_nodes
-table-first rows n = refl
-
-pub table-related : (rows : List NodeRow) (n : ℕ) → (table_nodes rows).related n ≡ related_in_row (slice_get rows n)
-unfolding table_nodes
-table-related rows n = refl
 
 -- ---- numbers
 
@@ -131,7 +110,7 @@ occurrences_below bs [] os z = tt
 occurrences_below bs (m ∷ ms) [] z = absurd z
 occurrences_below bs (m ∷ ms) (o ∷ os) z = (slice_get_within bs m.blank o.blank z.0.blank, occurrences_below bs ms os z.1)
 
-at-injective : (bs : List Blank) (x y : ℕ) → AllDiffer bs → x < length bs → y < length bs → at bs x ≡ at bs y → x ≡ y
+pub at-injective : (bs : List Blank) (x y : ℕ) → AllDiffer bs → x < length bs → y < length bs → at bs x ≡ at bs y → x ≡ y
 at-injective bs x y a p q e =
     ⊎_elim (λ k. k) (⊎_elim (λ l. absurd (a x y no_blank l q e)) (λ l. absurd (a y x no_blank l p (sym e)))) (cases_order x y)
 
@@ -178,7 +157,7 @@ table-all-carried q bs rows t h =
     let numbers : map (at bs) (numbers_below (length rows)) ≡ bs = at-numbers bs (length rows) (omega arith) ∙ take_all (length rows) bs (omega arith) in
     let order : IsPermutation bs (blanks q) =
     IsPermutation-from_elements bs (blanks q) t.differ (AllDiffer-blanks q)
-    (λ b. ((λ m. (blanks-StandsIn q b).1 (All-contains (StandsIn q) bs b h m)), (λ m. t.covers b ((blanks-StandsIn q b).0 m)))) in
+    (λ b. ((λ m. (blanks-all q b).0 (All-contains (StandsIn q) bs b h m)), (λ m. t.covers b ((blanks-all q b).1 m)))) in
     subst (λ l. IsPermutation l (blanks q)) (sym numbers) order
 
 pub table-all-inside : (rows : List NodeRow) → AllByRecursion (λ k. k < length rows) (table_nodes rows).all
@@ -239,14 +218,14 @@ place-at (a ∷ bs) b m =
     (λ e. place-at bs b (⊎_elim (λ k. absurd (same_blank-false a b e k)) (λ n. n) (Contains-cons_cases a bs b m)))
 
 module _ (q : List Statement) (bs : List Blank) (rows : List NodeRow) (t : IsTableOf q bs rows) where
-  long : length bs ≡ length rows
-  long = as_long (IsRowOf q bs) bs rows t.each
+  pub table-length : length bs ≡ length rows
+  table-length = as_long (IsRowOf q bs) bs rows t.each
 
   place_below : (b : Blank) → Contains bs b → place_in bs b < length rows
-  place_below b m = let below : place_in bs b < length bs = (place-at bs b m).0 in let same : length bs ≡ length rows = long in omega arith
+  place_below b m = let below : place_in bs b < length bs = (place-at bs b m).0 in let same : length bs ≡ length rows = table-length in omega arith
 
   at_contained : (k : ℕ) → k < length rows → Contains bs (at bs k)
-  at_contained k p = let same : length bs ≡ length rows = long in Contains-get_or bs k no_blank (omega arith)
+  at_contained k p = let same : length bs ≡ length rows = table-length in Contains-get_or bs k no_blank (omega arith)
 
   place_back : (b : Blank) → Contains bs b → at bs (place_in bs b) ≡ b
   place_back b m = (place-at bs b m).1
@@ -256,7 +235,7 @@ module _ (q : List Statement) (bs : List Blank) (rows : List NodeRow) (t : IsTab
   dataset-carries = Carries-back (at bs) (λ k. k < length rows) (table_nodes rows) (nodes_of sha256_digits q) (table-carries q bs rows t) (place_in bs) (Contains bs) place_below at_contained place_back
 
   pub dataset-all-inside : AllByRecursion (Contains bs) (blanks q)
-  dataset-all-inside = Each-from_contains (Contains bs) (blanks q) (λ b m. t.covers b ((blanks-StandsIn q b).0 m))
+  dataset-all-inside = Each-from_contains (Contains bs) (blanks q) (λ b m. t.covers b ((blanks-all q b).1 m))
 
   module _ (h : All (StandsIn q) bs) where
     pub dataset-all-carried : IsPermutation (map (place_in bs) (blanks q)) (table_nodes rows).all

@@ -3,9 +3,10 @@ use Rattle.std.proofs.Common.{◌≡◌, ◌||◌, ◌==◌, ℕ, zero, suc, ◌
 use Rattle.std.specs.Prelude.{◌⊎◌, All}
 use Rattle.std.specs.Option.{option_and_then, is_some}
 use Rattle.std.specs.List.{AllByRecursion, AllZip, concat, flat_map, list_any}
+use Rattle.std.proofs.Math.Bool.{or-false, or_assoc}
 use Rattle.std.proofs.lemmas.Bool.{false≢true}
 use Rattle.std.proofs.lemmas.Bool.Decides.{Decides-eqb}
-use Rattle.std.proofs.lemmas.List.{map-append}
+use Rattle.std.proofs.lemmas.List.{map-append, length-map}
 use Rattle.std.proofs.lemmas.List.Elements.{All-contains, All-from_recursion, Contains-append_left, Contains-append_right, Contains-append_cases}
 use Rattle.std.proofs.lemmas.List.Folds.{list_any-append}
 use Rattle.base_types.specs.Order.{in_order}
@@ -32,7 +33,8 @@ use Rattle.rdfc_ndegree.specs.declared.table.Place.TheVariants as place
 use Rattle.rdfc_ndegree.specs.declared.table.Related.{Related}
 use Rattle.rdfc_ndegree.specs.declared.table.NodeRow.{NodeRow}
 use Rattle.rdfc_ndegree.specs.Building.{number_among, names_of, new_row, with_row, with_rows, unknown, parts_of, links_at, links, more, related_at, node_related, object_related, relate, related_all}
-use Rattle.rdfc_ndegree.proofs.CarryBasics.{Each-append, Each-from_contains, Each-weaker}
+use Rattle.rdfc_ndegree.proofs.Basics.{AllZip-append}
+use Rattle.rdfc_ndegree.proofs.CarryBasics.{Each-append, Each-from_contains, Each-weaker, map-map}
 use Rattle.rdfc_ndegree.proofs.BuildLemmas.{number-get, number-below, number-there, number-None, number-Some, is_at, stands, given, gets-all, names-all, names-append, others-named}
 
 -- ---- related nodes are rows
@@ -140,12 +142,6 @@ list_any-Contains n (b ∷ bs) e = go (same_blank n b) refl e (list_any-Contains
     go true h e rest = subst (Contains (b ∷ bs)) (sym (same_blank-true n b h)) (Contains-here b bs)
     go false h e rest = Contains-there b bs n (rest e)
 
-AllZip-append : {X Y : Type 0} (R : X → Y → Type 0) (xs us : List X) (ys vs : List Y) → AllZip R xs ys → AllZip R us vs → AllZip R (xs ++ us) (ys ++ vs)
-AllZip-append R [] us [] vs z w = w
-AllZip-append R [] us (y ∷ ys) vs z w = absurd z
-AllZip-append R (x ∷ xs) us [] vs z w = absurd z
-AllZip-append R (x ∷ xs) us (y ∷ ys) vs z w = (z.0, AllZip-append R xs us ys vs z.1 w)
-
 no_name : (t : Term) (bs : List Blank) → ((b : Blank) → bytes_eq (spelling t) (blank_text b) ≡ false) → number_among (map blank_text bs) (spelling t) ≡ None
 no_name t [] h = refl
 no_name t (b ∷ bs) h = ap (λ c. cond c (Some 0) (option_map suc (number_among (map blank_text bs) (spelling t)))) (h b) ∙ ap (option_map suc) (no_name t bs h)
@@ -198,11 +194,7 @@ module _ (bs : List Blank) (differ : AllDiffer bs) (k : ℕ) (b : Blank) (at_k :
   part_at (literal text datatype language) h = ap (is_at k) (no_name (literal text datatype language) bs (λ c. refl))
   part_at (blank c) h =
       let j = numbered_blank bs c (h c (Contains-here c [])) in
-      ap (is_at k) j.1 ∙ same_number j.0 c j.2 ∙ sym (or_false (same_blank b c))
-    where
-      or_false : (t : Bool) → (t || false) ≡ t
-      or_false true = refl
-      or_false false = refl
+      ap (is_at k) j.1 ∙ same_number j.0 c j.2 ∙ sym (or-false (same_blank b c))
 
   graph_at : (g : Option Term) → InBlanks (blanks_of_graph g) → is_at k (option_and_then (number_among (map blank_text bs)) (option_map spelling g)) ≡ list_any (same_blank b) (blanks_of_graph g)
   graph_at None h = refl
@@ -244,12 +236,8 @@ module _ (bs : List Blank) (differ : AllDiffer bs) (k : ℕ) (b : Blank) (at_k :
       let whole = list_any-append (same_blank b) (blanks_of_term s.subject) (blanks_of_term s.object ++ blanks_of_graph s.graph) in
       let rest = list_any-append (same_blank b) (blanks_of_term s.object) (blanks_of_graph s.graph) in
       (λ i. (part_at s.subject (within_subject s h) i || part_at s.object (within_object s h) i) || graph_at s.graph (within_graph s h) i)
-      ∙ or_moved (list_any (same_blank b) (blanks_of_term s.subject)) (list_any (same_blank b) (blanks_of_term s.object)) (list_any (same_blank b) (blanks_of_graph s.graph))
+      ∙ or_assoc (list_any (same_blank b) (blanks_of_term s.subject)) (list_any (same_blank b) (blanks_of_term s.object)) (list_any (same_blank b) (blanks_of_graph s.graph))
       ∙ sym (whole ∙ ap (λ t. list_any (same_blank b) (blanks_of_term s.subject) || t) rest)
-    where
-      or_moved : (t u v : Bool) → ((t || u) || v) ≡ (t || (u || v))
-      or_moved true u v = refl
-      or_moved false u v = refl
 
   statement_links : (s : Statement) → InBlanks (blanks_of s) → AllZip (IsOccurrence bs) (map occurrence_of (links k (numbers s))) (occurrences_in b s)
   statement_links s h =
@@ -404,9 +392,9 @@ module _ (q : List Statement) (firsts : List BlankHash) (cs : List Blank) where
       let rest = d.names in
       record { nodes = good.0.node ∷ d.nodes; zip = (good.0.is, d.zip); each = (good.0.from, d.each); names = λ i. first i ∷ rest i }
 
-differ-from_map : (bs : List Blank) → AllDiffer (map blank_text bs) → AllDiffer bs
-differ-from_map [] a = AllDiffer-nil
-differ-from_map (b ∷ bs) a = AllDiffer-cons b bs (λ m. AllDiffer-head (blank_text b) (map blank_text bs) a (Contains-map blank_text bs b m)) (differ-from_map bs (AllDiffer-tail (blank_text b) (map blank_text bs) a))
+pub differ-from_map : {X Y : Type 0} (f : X → Y) (xs : List X) → AllDiffer (map f xs) → AllDiffer xs
+differ-from_map f [] a = AllDiffer-nil
+differ-from_map f (x ∷ xs) a = AllDiffer-cons x xs (λ m. AllDiffer-head (f x) (map f xs) a (Contains-map f xs x m)) (differ-from_map f xs (AllDiffer-tail (f x) (map f xs) a))
 
 named_there : (bs : List Blank) (b : Blank) → Contains (map blank_text bs) (blank_text b) → Contains bs b
 named_there bs b c = let found = Contains-from_map blank_text bs (blank_text b) c in subst (Contains bs) (blank_text_one_reading found.0 b found.2) found.1
@@ -433,10 +421,10 @@ built_table q firsts cs rows s there =
     let d = drawn q firsts cs rows s.good in
     let bs = d.nodes in
     let ps = map (parts_of (names_of rows)) (map spelled q) in
-    let differ : AllDiffer bs = differ-from_map bs (subst AllDiffer d.names s.differ) in
+    let differ : AllDiffer bs = differ-from_map blank_text bs (subst AllDiffer d.names s.differ) in
     let covers : (b : Blank) → StandsIn q b → Contains bs b = λ b stands. named_there bs b (subst (λ ns. Contains ns (blank_text b)) d.names (s.covers b stands)) in
     let within : (t : Statement) → Contains q t → (c : Blank) → Contains (blanks_of t) c → Contains bs c = λ t m c n. covers c (to_blanks_in q t c m n) in
-    let long : length bs ≡ length (related_all rows ps) = sym (length-map bs) ∙ ap length (sym d.names) ∙ ap length (sym (names-all rows ps)) ∙ length-names (related_all rows ps) in
+    let long : length bs ≡ length (related_all rows ps) = sym (length-map bs blank_text) ∙ ap length (sym d.names) ∙ ap length (sym (names-all rows ps)) ∙ length-names (related_all rows ps) in
     record {
       nodes = bs;
       table = record {
@@ -445,7 +433,7 @@ built_table q firsts cs rows s there =
         each = zip-build (IsRowOf q bs) bs (related_all rows ps) long (λ k b at_k.
             let found = zip-find (λ b row. row ≡ bare q firsts cs b) bs rows k b d.zip at_k in
             let last : slice_get (related_all rows ps) k ≡ Some (more found.0 (flat_map (given k) ps)) = gets-all rows ps k ∙ ap (option_map (λ (r : NodeRow). more r (flat_map (given k) ps))) found.1 in
-            let numbered : ps ≡ map (λ t. parts_of (map blank_text bs) (spelled t)) q = ap (λ ns. map (parts_of ns) (map spelled q)) d.names ∙ map-twice (parts_of (map blank_text bs)) q in
+            let numbered : ps ≡ map (λ t. parts_of (map blank_text bs) (spelled t)) q = ap (λ ns. map (parts_of ns) (map spelled q)) d.names ∙ map-map (parts_of (map blank_text bs)) spelled q in
             let links : AllZip (IsOccurrence bs) (map occurrence_of (flat_map (given k) ps)) (related_in q b) = subst (λ ps. AllZip (IsOccurrence bs) (map occurrence_of (flat_map (given k) ps)) (related_in q b)) (sym numbered) (dataset_links bs differ k b at_k q within) in
             let row : IsRowOf q bs b (more (bare q firsts cs b) (flat_map (given k) ps)) = record { name = refl; first = refl; related = links } in
             (more found.0 (flat_map (given k) ps), last, subst (λ r. IsRowOf q bs b (more r (flat_map (given k) ps))) (sym found.2) row));
@@ -455,14 +443,6 @@ built_table q firsts cs rows s there =
       rest = s.rest;
       order = names-all rows ps ∙ s.order;
     }
-  where
-    length-map : (bs : List Blank) → length (map blank_text bs) ≡ length bs
-    length-map [] = refl
-    length-map (b ∷ bs) = ap suc (length-map bs)
-
-    map-twice : (f : TextQuad → Parts) (ss : List Statement) → map f (map spelled ss) ≡ map (λ t. f (spelled t)) ss
-    map-twice f [] = refl
-    map-twice f (s ∷ ss) = ap (λ ps. f (spelled s) ∷ ps) (map-twice f ss)
 
 pub built-with : (q : List Statement) (cs : List Blank) (quads : List TextQuad) (firsts : List BlankHash) (others : List (List ℕ)) → quads ≡ map spelled q → AreFirstHashes sha256_digits q firsts → others ≡ map blank_text cs → IsTableWith q firsts cs (built quads firsts others)
 built-with q cs quads firsts others is are other =

@@ -1,15 +1,16 @@
 -- The nodes of a table field by field, and issuers over numbers.
-use Rattle.std.proofs.Common.{◌≡◌, ℕ, zero, suc, ◌+◌, ◌<◌, List, [], ◌∷◌, ◌++◌, length, refl, sym, ap, arith, Some, None, Bool, true, false, cond, ◌==◌, decimal}
+use Rattle.std.proofs.Common.{◌≡◌, ℕ, zero, suc, ◌+◌, ◌<◌, List, [], ◌∷◌, ◌++◌, length, refl, sym, ap, subst, arith, Contains, Some, None, Bool, true, false, cond, ◌==◌, decimal}
 use Rattle.std.specs.Prelude.{slice_get, codes}
 use Rattle.std.proofs.Common.{◌≤◌, get_or, take}
 use Rattle.std.proofs.lemmas.List.{take_all}
 use Rattle.std.specs.List.{list_any}
 use Rattle.digest_mac.specs.Digests.{sha256_digits}
-use Rattle.std.proofs.lemmas.Bool.Decides.{nat_tests}
+use Rattle.std.proofs.lemmas.Bool.Decides.{Decides-eqb, nat_tests}
 use Rattle.rdfc_ndegree.specs.Issuers.{has, number, canonical_id, temporary_id}
 use Rattle.rdfc_ndegree.specs.Table.{numbers_below, first_in, related_in_row, table_nodes}
 use Rattle.rdfc_ndegree.specs.Kept.{number_in, place_in}
 use Rattle.rdfc_ndegree.specs.declared.table.NodeRow.{NodeRow}
+use Rattle.rdfc_ndegree.proofs.AgreeBasics.{list_any-none, false_unless}
 
 module _ (rows : List NodeRow) where
   pub table-all : (table_nodes rows).all ≡ numbers_below (length rows)
@@ -66,6 +67,9 @@ place-some xs n k e = go (list_any (λ m. m == n) xs) refl
 pub number-absent : (xs : List ℕ) (n : ℕ) → list_any (λ m. m == n) xs ≡ false → number_in xs n ≡ length xs
 number-absent [] n e = refl
 number-absent (x ∷ xs) n e = grind (arith, nat_tests, number-absent xs n)
+
+pub absent-any : (xs : List ℕ) (n : ℕ) → (Contains xs n → ⊥) → list_any (λ m. m == n) xs ≡ false
+absent-any xs n absent = list_any-none (λ m. m == n) xs (λ m k. false_unless (m == n) (λ e. absent (subst (Contains xs) ((Decides-eqb m n).0 e) k)))
 
 -- the first place that holds the number
 pub place-found : (xs : List ℕ) (n k : ℕ) → k < length xs → get_or xs k 0 ≡ n → list_any (λ m. m == n) (take k xs) ≡ false → Some k ≡ place_in xs n

@@ -1,5 +1,6 @@
 -- What a related hash calls a node, and the first pass over an arrangement, on numbers.
-use Rattle.std.proofs.Common.{◌≡◌, ℕ, suc, ◌+◌, ◌<◌, List, [], ◌∷◌, ◌++◌, length, get_or, drop, drop-cons, refl, sym, ap, ◌∙◌, subst, append_assoc, append-nil, add-one, Option, Some, None, Bool, true, false, ◌==◌, decimal}
+use Rattle.std.proofs.Common.{◌≡◌, ℕ, ◌+◌, ◌<◌, List, [], ◌∷◌, ◌++◌, length, get_or, drop, refl, sym, ap, ◌∙◌, subst, append_assoc, append-nil, Option, Some, None, Bool, true, false, ◌==◌, decimal}
+use Rattle.std.proofs.lemmas.List.{drop_more}
 use Rattle.std.specs.Prelude.{slice_get, codes, unwrap_or}
 use Rattle.std.specs.List.{list_any}
 use Rattle.rdfc_ndegree.specs.Groups.{known_as}
@@ -129,6 +130,6 @@ pub pass-start : (rows : List NodeRow) (c i ms : List ℕ) → Walking rows c i 
 pass-start rows c i ms = Walking-start rows c i ms
 
 pub drop-next : (ms : List ℕ) (k m : ℕ) → k < length ms → m ≡ get_or ms k 0 → drop k ms ≡ m ∷ drop (k + 1) ms
-drop-next ms k m in' is = rw add-one (drop-cons ms k 0 in' ∙ ap (λ x. x ∷ drop (suc k) ms) (sym is))
+drop-next ms k m in' is = drop_more ms k 0 in' ∙ ap (λ x. x ∷ drop (k + 1) ms) (sym is)
 
 pub ruleset known = (known-canonical, known-temporary, known-first)
