@@ -1,3 +1,4 @@
 pub mod LineLemmas
 pub mod Histories
 pub mod Naming
+pub mod Covering
