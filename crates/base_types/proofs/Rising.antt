@@ -12,7 +12,7 @@ use Rattle.std.proofs.lemmas.Map.Lookups.{exact_bytes, CmpEqualImpliesEq}
 use Rattle.std.proofs.lemmas.Cmp.{eq_by_cmp_equiv}
 use Rattle.std.proofs.lemmas.List.Kept.{IsStrictlySortedBy-dedup, Contains-dedup, Contains-from_dedup}
 use Rattle.std.proofs.lemmas.List.Sorted.{Contains-permutation, IsPermutation-sym}
-use Rattle.base_types.specs.Order.{is_upto, put_once, rising}
+use Rattle.base_types.specs.Order.{is_upto, put_once, sorted_set}
 use Rattle.base_types.specs.Sets.{SameElements}
 use Rattle.base_types.proofs.Lists.{Contains-here, Contains-there, Contains-cons_cases, SameElements-refl, SameElements-sym, SameElements-trans, SameElements-cons, strictly_sorted-unique}
 use Rattle.base_types.proofs.Orders.{text_cmp, is_upto-cmp, bytes_eq-cmp, by_cmp}
@@ -79,21 +79,21 @@ put_once-same t (u ∷ us) =
 
 -- ---- `rising`
 
-pub rising-rises : (ts : List (List ℕ)) → IsStrictlySortedBy text_cmp (rising ts)
+pub rising-rises : (ts : List (List ℕ)) → IsStrictlySortedBy text_cmp (sorted_set ts)
 unfolding IsStrictlySortedBy
 rising-rises [] = tt
-rising-rises (t ∷ ts) = put_once-rises t (rising ts) (rising-rises ts)
+rising-rises (t ∷ ts) = put_once-rises t (sorted_set ts) (rising-rises ts)
 
-pub rising-same : (ts : List (List ℕ)) → SameElements (rising ts) ts
+pub rising-same : (ts : List (List ℕ)) → SameElements (sorted_set ts) ts
 rising-same [] = SameElements-refl []
-rising-same (t ∷ ts) = SameElements-trans (put_once t (rising ts)) (t ∷ rising ts) (t ∷ ts) (put_once-same t (rising ts)) (SameElements-cons t (rising ts) ts (rising-same ts))
+rising-same (t ∷ ts) = SameElements-trans (put_once t (sorted_set ts)) (t ∷ sorted_set ts) (t ∷ ts) (put_once-same t (sorted_set ts)) (SameElements-cons t (sorted_set ts) ts (rising-same ts))
 
-pub rising-only : (ts us : List (List ℕ)) → IsStrictlySortedBy text_cmp us → SameElements us ts → us ≡ rising ts
-rising-only ts us up same = strictly_sorted-unique nat_list_cmp_total us (rising ts) up (rising-rises ts) (SameElements-trans us ts (rising ts) same (SameElements-sym (rising ts) ts (rising-same ts)))
+pub rising-only : (ts us : List (List ℕ)) → IsStrictlySortedBy text_cmp us → SameElements us ts → us ≡ sorted_set ts
+rising-only ts us up same = strictly_sorted-unique nat_list_cmp_total us (sorted_set ts) up (rising-rises ts) (SameElements-trans us ts (sorted_set ts) same (SameElements-sym (sorted_set ts) ts (rising-same ts)))
 
 -- it depends on the set alone
-pub rising-free : (ts us : List (List ℕ)) → SameElements ts us → rising ts ≡ rising us
-rising-free ts us same = rising-only us (rising ts) (rising-rises ts) (SameElements-trans (rising ts) ts us (rising-same ts) same)
+pub rising-free : (ts us : List (List ℕ)) → SameElements ts us → sorted_set ts ≡ sorted_set us
+rising-free ts us same = rising-only us (sorted_set ts) (rising-rises ts) (SameElements-trans (sorted_set ts) ts us (rising-same ts) same)
 
 -- ---- a sort, and then `dedup`
 
@@ -109,6 +109,6 @@ SameElements-dedup {X} {R} o exact {E} ties xs ys moved x = (
     equal_if Equal e = refl
     equal_if Greater e = absurd (cc)
 
-pub rising-dedup : (ts us : List (List ℕ)) → IsPermutation ts us → IsSorted text_cmp us → dedup bytes_eq us ≡ rising ts
+pub rising-dedup : (ts us : List (List ℕ)) → IsPermutation ts us → IsSorted text_cmp us → dedup bytes_eq us ≡ sorted_set ts
 rising-dedup ts us moved up =
     rising-only ts (dedup bytes_eq us) (IsStrictlySortedBy-dedup nat_list_cmp_total bytes_eq-cmp us up) (SameElements-dedup nat_list_cmp_total exact_bytes bytes_eq-cmp ts us moved)

@@ -1,5 +1,6 @@
--- Texts in code-point order. UTF-8 keeps the order of code points, so texts are compared by bytes.
-use Rattle.std.specs.Prelude.{ℕ, List, [], ◌∷◌, Bool, true, false, ◌==◌, nat_lt, if◌then◌else◌}
+-- Texts in code-point order, and numbers that rise. UTF-8 keeps the order of code points, so texts are compared by bytes.
+use Rattle.std.specs.Prelude.{ℕ, List, [], ◌∷◌, Bool, true, false, ◌&&◌, ◌==◌, nat_lt, if◌then◌else◌}
+use Rattle.std.specs.List.{list_all}
 use Rattle.std.specs.Str.{bytes_eq}
 
 -- whether x is y, or comes before it
@@ -24,6 +25,11 @@ put_once t [] = t ∷ []
 put_once t (u ∷ us) = if bytes_eq t u then u ∷ us else (if is_upto t u then t ∷ (u ∷ us) else u ∷ put_once t us)
 
 -- the texts in code-point order, each once
-abbrev pub rising : List (List ℕ) → List (List ℕ)
-rising [] = []
-rising (t ∷ ts) = put_once t (rising ts)
+abbrev pub sorted_set : List (List ℕ) → List (List ℕ)
+sorted_set [] = []
+sorted_set (t ∷ ts) = put_once t (sorted_set ts)
+
+-- the numbers rise: each is less than every one after it
+abbrev pub rise : List ℕ → Bool
+rise [] = true
+rise (k ∷ ks) = list_all (nat_lt k) ks && rise ks

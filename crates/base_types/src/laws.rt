@@ -4,7 +4,7 @@ ghost use Rattle.std.specs.Prelude.{◌≡◌, ◌⊎◌, ℕ, List, true};
 ghost use Rattle.std.specs.Cmp.Lexicographic.{slice_cmp};
 ghost use Rattle.std.specs.List.Sorted.{IsPermutation, IsSorted, IsStrictlySortedBy};
 ghost use Rattle.std.specs.Ordering.{nat_cmp, is_le};
-ghost use Rattle.base_types.specs.Order.{is_upto, in_order, rising};
+ghost use Rattle.base_types.specs.Order.{is_upto, in_order, sorted_set};
 ghost use Rattle.base_types.specs.Sets.{SameElements};
 
 /// `is_upto` is the order by which std compares texts, and it is a total order.
@@ -28,8 +28,8 @@ pub fn in_order_is_the_sorted_list()
 /// `rising` is the one list in strict code-point order with the same texts. So it depends on the set
 /// of the texts alone.
 pub fn rising_is_the_ordered_set()
-    ensures rises { (ts : List (List ℕ)) → IsStrictlySortedBy (slice_cmp nat_cmp) (rising ts) }
-    ensures same { (ts : List (List ℕ)) → SameElements (rising ts) ts }
-    ensures only { (ts us : List (List ℕ)) → IsStrictlySortedBy (slice_cmp nat_cmp) us → SameElements us ts → us ≡ rising ts }
-    ensures any_list { (ts us : List (List ℕ)) → SameElements ts us → rising ts ≡ rising us }
+    ensures rises { (ts : List (List ℕ)) → IsStrictlySortedBy (slice_cmp nat_cmp) (sorted_set ts) }
+    ensures same { (ts : List (List ℕ)) → SameElements (sorted_set ts) ts }
+    ensures only { (ts us : List (List ℕ)) → IsStrictlySortedBy (slice_cmp nat_cmp) us → SameElements us ts → us ≡ sorted_set ts }
+    ensures any_list { (ts us : List (List ℕ)) → SameElements ts us → sorted_set ts ≡ sorted_set us }
 {}

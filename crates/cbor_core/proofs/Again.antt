@@ -9,7 +9,7 @@ use Rattle.std.proofs.lemmas.Bool.{le-ltb, ne_eqb}
 use Rattle.std.proofs.lemmas.List.{take_at, drop_at, length-append, append-nil}
 use Rattle.cbor_core.specs.declared.item.Item.{Item}
 use Rattle.cbor_core.specs.declared.item.Item.TheVariants as v
-use Rattle.cbor_core.specs.Grammar.{head_of, IsHead, SpellsFlat, SpellsEach, SpellsEntries, SpellsList, SpellsMap, Spells, KeysDiffer, put_all}
+use Rattle.cbor_core.specs.Grammar.{head_of, IsHead, EncodesFlat, EncodesEach, EncodesEntries, EncodesList, EncodesMap, Encodes, KeysDiffer, put_all}
 use Rattle.cbor_core.specs.Reading.{Reader, argument_at, string_at, whole_at, blob_at, text_at, flat_at, items_at, list_at, key_at, entries_at, map_at, item_at}
 use Rattle.cbor_core.proofs.Arguments.{argument_again, head_first}
 use Rattle.cbor_core.proofs.Keys.{Fresh, fresh_after, fresh_at_first}
@@ -48,7 +48,7 @@ flat_text total left content rest u lt = rw (string_again total 3 content rest l
 string_first : (major : ℕ) (content rest : List ℕ) → (0 < length ((head_of major (length content) ++ content) ++ rest)) × (get_or ((head_of major (length content) ++ content) ++ rest) 0 0 / 32 ≡ major)
 string_first major content rest = rw (append_assoc (head_of major (length content)) content rest) (head_first major (length content) (content ++ rest))
 
-flat_again : (total left : ℕ) (item : Item) (text rest : List ℕ) → SpellsFlat item text → Begins total left item (text ++ rest) rest
+flat_again : (total left : ℕ) (item : Item) (text rest : List ℕ) → EncodesFlat item text → Begins total left item (text ++ rest) rest
 flat_again total left item text rest (inl s) =
     let first = head_first 0 s.0 rest in
     rw (s.1, s.2.1) (begins total left 0 (v.Whole s.0) (head_of 0 s.0 ++ rest) rest first.0 first.1 (omega arith) (flat_whole total left s.0 rest s.2.0))
@@ -75,7 +75,7 @@ key_again total left key text rest s some =
     rw s.1 (key_is total left (head_of 0 key ++ rest) first.0 first.1 some ∙ argument_again total 0 key rest s.0)
 
 module _ (total : ℕ) (inner : Reader) (spells : Item → ℕ → List ℕ → Type 0) (again : Again inner spells) where
-  items_again : (items done : List Item) (left count : ℕ) (text rest : List ℕ) → SpellsEach spells items count text → count ≤ left → items_at inner done (length items) left (text ++ rest) ≡ Ok (done ++ items, left - count, rest)
+  items_again : (items done : List Item) (left count : ℕ) (text rest : List ℕ) → EncodesEach spells items count text → count ≤ left → items_at inner done (length items) left (text ++ rest) ≡ Ok (done ++ items, left - count, rest)
   unfolding items_at
   items_again [] done left count text rest s le =
       let same : left - count ≡ left = omega (arith, s.0) in
@@ -91,7 +91,7 @@ module _ (total : ℕ) (inner : Reader) (spells : Item → ℕ → List ℕ → 
       let number : left - m - n ≡ left - count = omega arith in
       rw (s.7, append_assoc front back rest, one) (more ∙ rw (number, append_assoc done (item ∷ []) items) refl)
 
-  entries_again : (entries done : List (ℕ × Item)) (left count : ℕ) (text rest : List ℕ) → SpellsEntries spells entries count text → KeysDiffer entries → Fresh done entries → count ≤ left → entries_at total inner done (length entries) left (text ++ rest) ≡ Ok (put_all done entries, left - count, rest)
+  entries_again : (entries done : List (ℕ × Item)) (left count : ℕ) (text rest : List ℕ) → EncodesEntries spells entries count text → KeysDiffer entries → Fresh done entries → count ≤ left → entries_at total inner done (length entries) left (text ++ rest) ≡ Ok (put_all done entries, left - count, rest)
   unfolding entries_at
   entries_again [] done left count text rest s d fr le =
       let same : left - count ≡ left = omega (arith, s.0) in
@@ -110,7 +110,7 @@ module _ (total : ℕ) (inner : Reader) (spells : Item → ℕ → List ℕ → 
       let number : left - 1 - m - n ≡ left - count = omega arith in
       rw (s.9, grouped, first, fr.0, one) (more ∙ rw number refl)
 
-  list_again : (left : ℕ) (item : Item) (count : ℕ) (text rest : List ℕ) → SpellsList spells item (suc count) text → count ≤ left
+  list_again : (left : ℕ) (item : Item) (count : ℕ) (text rest : List ℕ) → EncodesList spells item (suc count) text → count ≤ left
       → (0 < length (text ++ rest)) × (get_or (text ++ rest) 0 0 / 32 ≡ 4) × (list_at total inner left (text ++ rest) ≡ Ok (item, left - count, rest))
   unfolding list_at
   list_again left item count text rest s le =
@@ -123,7 +123,7 @@ module _ (total : ℕ) (inner : Reader) (spells : Item → ℕ → List ℕ → 
       let each = items_again items [] left n tail rest s.5 (omega arith) in
       rw (s.7, append_assoc (head_of 4 (length items)) tail rest) (first.0, first.1, rw (head, each, ← s.3, cnt) refl)
 
-  map_again : (left : ℕ) (item : Item) (count : ℕ) (text rest : List ℕ) → SpellsMap spells item (suc count) text → count ≤ left
+  map_again : (left : ℕ) (item : Item) (count : ℕ) (text rest : List ℕ) → EncodesMap spells item (suc count) text → count ≤ left
       → (0 < length (text ++ rest)) × (get_or (text ++ rest) 0 0 / 32 ≡ 5) × (map_at total inner left (text ++ rest) ≡ Ok (item, left - count, rest))
   unfolding map_at
   map_again left item count text rest s le =
@@ -138,34 +138,34 @@ module _ (total : ℕ) (inner : Reader) (spells : Item → ℕ → List ℕ → 
 
 -- ---- an item
 
-flat_item : (total levels left : ℕ) (item : Item) (count : ℕ) (text rest : List ℕ) → SpellsFlat item text → count ≡ 1 → count ≤ left → item_at total levels left (text ++ rest) ≡ Ok (item, left - count, rest)
+flat_item : (total levels left : ℕ) (item : Item) (count : ℕ) (text rest : List ℕ) → EncodesFlat item text → count ≡ 1 → count ≤ left → item_at total levels left (text ++ rest) ≡ Ok (item, left - count, rest)
 flat_item total levels left item count text rest s one le =
     let b = flat_again total (left - 1) item text rest s in
     item_as_flat total left (omega arith) (text ++ rest) levels b.full (λ _. b.other.0) (λ _. b.other.1) ∙ b.gives ∙ rw one refl
 
 -- a list and a map count one more than what they hold
-counted : (spells : Item → ℕ → List ℕ → Type 0) (item : Item) (count : ℕ) (text : List ℕ) → SpellsList spells item count text ⊎ SpellsMap spells item count text → (n : ℕ) × (count ≡ suc n)
+counted : (spells : Item → ℕ → List ℕ → Type 0) (item : Item) (count : ℕ) (text : List ℕ) → EncodesList spells item count text ⊎ EncodesMap spells item count text → (n : ℕ) × (count ≡ suc n)
 counted spells item count text (inl s) = (s.1, s.6)
 counted spells item count text (inr s) = (s.1, s.7)
 
-nested_item : (total levels left : ℕ) (item : Item) (n : ℕ) (text rest : List ℕ) → Again (item_at total levels) (Spells levels) → suc n ≤ left → SpellsList (Spells levels) item (suc n) text ⊎ SpellsMap (Spells levels) item (suc n) text → item_at total (suc levels) left (text ++ rest) ≡ Ok (item, left - 1 - n, rest)
+nested_item : (total levels left : ℕ) (item : Item) (n : ℕ) (text rest : List ℕ) → Again (item_at total levels) (Encodes levels) → suc n ≤ left → EncodesList (Encodes levels) item (suc n) text ⊎ EncodesMap (Encodes levels) item (suc n) text → item_at total (suc levels) left (text ++ rest) ≡ Ok (item, left - 1 - n, rest)
 nested_item total levels left item n text rest again le (inl s) =
-    let t = list_again total (item_at total levels) (Spells levels) again (left - 1) item n text rest s (omega arith) in
+    let t = list_again total (item_at total levels) (Encodes levels) again (left - 1) item n text rest s (omega arith) in
     let k : suc levels - 1 ≡ levels = omega arith in
     item_as_list total left (omega arith) (text ++ rest) (suc levels) t.0 (omega arith) t.1 ∙ rw k t.2
 nested_item total levels left item n text rest again le (inr s) =
-    let t = map_again total (item_at total levels) (Spells levels) again (left - 1) item n text rest s (omega arith) in
+    let t = map_again total (item_at total levels) (Encodes levels) again (left - 1) item n text rest s (omega arith) in
     let k : suc levels - 1 ≡ levels = omega arith in
     item_as_map total left (omega arith) (text ++ rest) (suc levels) t.0 (omega arith) t.1 ∙ rw k t.2
 
-pub item_again : (total levels : ℕ) → Again (item_at total levels) (Spells levels)
-unfolding Spells
+pub item_again : (total levels : ℕ) → Again (item_at total levels) (Encodes levels)
+unfolding Encodes
 item_again total zero left item count text rest s le = flat_item total zero left item count text rest s.0 s.1 le
 item_again total (suc levels) left item count text rest (inl s) le = flat_item total (suc levels) left item count text rest s.0 s.1 le
 item_again total (suc levels) left item count text rest (inr s) le =
-    let c = counted (Spells levels) item count text s in
+    let c = counted (Encodes levels) item count text s in
     let n = c.0 in
     let is : count ≡ suc n = c.1 in
-    let t = subst (λ (k : ℕ). SpellsList (Spells levels) item k text ⊎ SpellsMap (Spells levels) item k text) is s in
+    let t = subst (λ (k : ℕ). EncodesList (Encodes levels) item k text ⊎ EncodesMap (Encodes levels) item k text) is s in
     let number : left - 1 - n ≡ left - count = omega arith in
     nested_item total levels left item n text rest (item_again total levels) (omega arith) t ∙ rw number refl

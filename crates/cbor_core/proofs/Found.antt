@@ -11,7 +11,7 @@ use Rattle.cbor_core.specs.declared.fault.CborFault.{CborFault}
 use Rattle.cbor_core.specs.declared.fault.CborFault.TheVariants as f
 use Rattle.cbor_core.specs.declared.item.Item.{Item}
 use Rattle.cbor_core.specs.declared.item.Item.TheVariants as v
-use Rattle.cbor_core.specs.Grammar.{head_of, IsHead, IsString, SpellsFlat, SpellsEach, SpellsEntries, SpellsList, SpellsMap, Spells, KeysDiffer, put_all, pairs_of}
+use Rattle.cbor_core.specs.Grammar.{head_of, IsHead, IsString, EncodesFlat, EncodesEach, EncodesEntries, EncodesList, EncodesMap, Encodes, KeysDiffer, put_all, pairs_of}
 use Rattle.cbor_core.specs.Reading.{◌>>=◌, Reader, place_of, argument_at, string_at, whole_at, blob_at, text_at, flat_at, items_at, list_at, key_at, entries_at, map_at, item_at}
 use Rattle.cbor_core.proofs.Arguments.{IsBytes, IsBytes-drop, took, passed, went_on, same_ok, argument_takes}
 use Rattle.cbor_core.proofs.Keys.{has, Fresh, fresh_before}
@@ -43,7 +43,7 @@ string_takes total bytes content rest h e =
 
 record Flat (left : ℕ) (bytes : List ℕ) (item : Item) (after : ℕ) (rest : List ℕ) : Type 0 where
   text : List ℕ
-  spelled : SpellsFlat item text
+  spelled : EncodesFlat item text
   parts : bytes ≡ text ++ rest
   same : after ≡ left
   fits : IsBytes rest
@@ -113,7 +113,7 @@ record TookEach (spells : Item → ℕ → List ℕ → Type 0) (done : List Ite
   items : List Item
   count : ℕ
   text : List ℕ
-  spelled : SpellsEach spells items count text
+  spelled : EncodesEach spells items count text
   number : length items ≡ n
   whole : all ≡ done ++ items
   parts : bytes ≡ text ++ rest
@@ -146,7 +146,7 @@ module _ (total : ℕ) (inner : Reader) (spells : Item → ℕ → List ℕ → 
   record TookList (left : ℕ) (bytes : List ℕ) (item : Item) (after : ℕ) (rest : List ℕ) : Type 0 where
     count : ℕ
     text : List ℕ
-    spelled : SpellsList spells item (suc count) text ⊎ SpellsMap spells item (suc count) text
+    spelled : EncodesList spells item (suc count) text ⊎ EncodesMap spells item (suc count) text
     parts : bytes ≡ text ++ rest
     spent : left ≡ after + count
     fits : IsBytes rest
@@ -194,7 +194,7 @@ module _ (total : ℕ) (inner : Reader) (spells : Item → ℕ → List ℕ → 
     entries : List (ℕ × Item)
     count : ℕ
     text : List ℕ
-    spelled : SpellsEntries spells entries count text
+    spelled : EncodesEntries spells entries count text
     number : length entries ≡ n
     whole : all ≡ put_all done entries
     fresh : Fresh done entries
@@ -255,13 +255,13 @@ module _ (total : ℕ) (inner : Reader) (spells : Item → ℕ → List ℕ → 
 
 -- ---- an item
 
-flat_took : (levels left : ℕ) (bytes : List ℕ) (item : Item) (after : ℕ) (rest : List ℕ) → 0 < left → Flat (left - 1) bytes item after rest → Took (Spells levels) left bytes item after rest
-unfolding Spells
+flat_took : (levels left : ℕ) (bytes : List ℕ) (item : Item) (after : ℕ) (rest : List ℕ) → 0 < left → Flat (left - 1) bytes item after rest → Took (Encodes levels) left bytes item after rest
+unfolding Encodes
 flat_took zero left bytes item after rest some t = record { count = 1; text = t.text; spelled = (t.spelled, refl); parts = t.parts; spent = omega (arith, t.same); fits = t.fits }
 flat_took (suc levels) left bytes item after rest some t = record { count = 1; text = t.text; spelled = inl (t.spelled, refl); parts = t.parts; spent = omega (arith, t.same); fits = t.fits }
 
-pub item_takes : (total levels : ℕ) → Takes (item_at total levels) (Spells levels)
-unfolding item_at Spells
+pub item_takes : (total levels : ℕ) → Takes (item_at total levels) (Encodes levels)
+unfolding item_at Encodes
 item_takes total zero left [] item after rest h e = absurd cc
 item_takes total (suc levels) left [] item after rest h e = absurd cc
 item_takes total zero left (b ∷ bytes) item after rest h e =
@@ -279,11 +279,11 @@ item_takes total (suc levels) left (b ∷ bytes) item after rest h e =
     let some : 0 < left = omega arith in
     elim (took (eqb (b / 32) 4) asList (cond (eqb (b / 32) 5) asMap asFlat) (Ok (item, after, rest)) p.1) [
       | inl q ↦
-          let t = list_takes total (item_at total levels) (Spells levels) (item_takes total levels) (left - 1) whole item after rest (eqb-true (b / 32) 4 q.0) h q.1 in
+          let t = list_takes total (item_at total levels) (Encodes levels) (item_takes total levels) (left - 1) whole item after rest (eqb-true (b / 32) 4 q.0) h q.1 in
           record { count = suc t.count; text = t.text; spelled = inr t.spelled; parts = t.parts; spent = omega (arith, t.spent); fits = t.fits }
       | inr q ↦ elim (took (eqb (b / 32) 5) asMap asFlat (Ok (item, after, rest)) q.1) [
         | inl r ↦
-            let t = map_takes total (item_at total levels) (Spells levels) (item_takes total levels) (left - 1) whole item after rest (eqb-true (b / 32) 5 r.0) h r.1 in
+            let t = map_takes total (item_at total levels) (Encodes levels) (item_takes total levels) (left - 1) whole item after rest (eqb-true (b / 32) 5 r.0) h r.1 in
             record { count = suc t.count; text = t.text; spelled = inr t.spelled; parts = t.parts; spent = omega (arith, t.spent); fits = t.fits }
         | inr r ↦ flat_took (suc levels) left whole item after rest some (flat_takes total (left - 1) whole item after rest h r.1)
       ]

@@ -13,8 +13,9 @@ use Rattle.cbor_core.specs.declared.item.Item.{Item, fold-roll-Item, ind-Item, r
 use Rattle.cbor_core.specs.declared.item.Item.TheOpen.{Item-F}
 use Rattle.cbor_core.specs.declared.item.Item.TheVariants as v
 use Rattle.cbor_core.specs.declared.item.Pair.{Pair}
-use Rattle.cbor_core.specs.Grammar.{head_of, SpellsFlat, SpellsEach, SpellsEntries, Spells, KeysDiffer, put_all, pairs_of}
-use Rattle.cbor_core.specs.Writing.{sum_over, largest_over, spelling, nesting_step, nesting_of, count_step, count_of, rise, keys_rise_step, keys_rise, fits_step, fits}
+use Rattle.cbor_core.specs.Grammar.{head_of, EncodesFlat, EncodesEach, EncodesEntries, Encodes, KeysDiffer, put_all, pairs_of}
+use Rattle.cbor_core.specs.Writing.{sum_over, largest_over, encoding_of, nesting_step, item_nesting, count_step, count_of, keys_rise_step, keys_rise, fits_step, fits}
+use Rattle.base_types.specs.Order.{rise}
 use Rattle.cbor_core.proofs.Writes.{seen, sum_over-map, largest_over-map, spelling-Whole, spelling-Blob, spelling-Text, spelling-List, spelling-Map}
 
 -- ---- induction on items
@@ -47,12 +48,12 @@ module _ (P : Item → Type 0) where
 
 -- ---- one level of each definition
 
-pub nesting-List : (is : List Item) → nesting_of (v.List is) ≡ suc (largest_over nesting_of is)
-nesting-List is = ap nesting_of (sym (v.rolls-List is)) ∙ fold-roll-Item ℕ nesting_step (Item-F.List is) ∙ ap suc (largest_over-map (λ (n : ℕ). n) nesting_of is)
+pub nesting-List : (is : List Item) → item_nesting (v.List is) ≡ suc (largest_over item_nesting is)
+nesting-List is = ap item_nesting (sym (v.rolls-List is)) ∙ fold-roll-Item ℕ nesting_step (Item-F.List is) ∙ ap suc (largest_over-map (λ (n : ℕ). n) item_nesting is)
 
-pub nesting-Map : (ps : List (Pair Item)) → nesting_of (v.Map ps) ≡ suc (largest_over (λ p. nesting_of p.value) ps)
+pub nesting-Map : (ps : List (Pair Item)) → item_nesting (v.Map ps) ≡ suc (largest_over (λ p. item_nesting p.value) ps)
 unfolding seen
-nesting-Map ps = ap nesting_of (sym (v.rolls-Map ps)) ∙ fold-roll-Item ℕ nesting_step (Item-F.Map ps) ∙ ap suc (largest_over-map (λ (p : Pair ℕ). p.value) (seen nesting_of) ps)
+nesting-Map ps = ap item_nesting (sym (v.rolls-Map ps)) ∙ fold-roll-Item ℕ nesting_step (Item-F.Map ps) ∙ ap suc (largest_over-map (λ (p : Pair ℕ). p.value) (seen item_nesting) ps)
 
 pub count-Whole : (n : ℕ) → count_of (v.Whole n) ≡ 1
 count-Whole n = ap count_of (sym (v.rolls-Whole n)) ∙ fold-roll-Item ℕ count_step (Item-F.Whole n)
@@ -187,67 +188,67 @@ after_none (e ∷ es) = (tt, after_none es)
 -- ---- what is written is spelled so
 
 abbrev Spelled : Item → Type 0
-Spelled item = (levels : ℕ) → nesting_of item ≤ levels → keys_rise item ≡ true → fits item ≡ true → Spells levels item (count_of item) (spelling item)
+Spelled item = (levels : ℕ) → item_nesting item ≤ levels → keys_rise item ≡ true → fits item ≡ true → Encodes levels item (count_of item) (encoding_of item)
 
-flat_spells : (levels : ℕ) (item : Item) (count : ℕ) (bytes : List ℕ) → count ≡ 1 → SpellsFlat item bytes → Spells levels item count bytes
-unfolding Spells
+flat_spells : (levels : ℕ) (item : Item) (count : ℕ) (bytes : List ℕ) → count ≡ 1 → EncodesFlat item bytes → Encodes levels item count bytes
+unfolding Encodes
 flat_spells zero item count bytes one s = (s, one)
 flat_spells (suc levels) item count bytes one s = inl (s, one)
 
-each_spelled : (levels : ℕ) (is : List Item) → AllByRecursion Spelled is → largest_over nesting_of is ≤ levels → list_all keys_rise is ≡ true → list_all fits is ≡ true → SpellsEach (Spells levels) is (sum_over count_of is) (flat_map spelling is)
+each_spelled : (levels : ℕ) (is : List Item) → AllByRecursion Spelled is → largest_over item_nesting is ≤ levels → list_all keys_rise is ≡ true → list_all fits is ≡ true → EncodesEach (Encodes levels) is (sum_over count_of is) (flat_map encoding_of is)
 each_spelled levels [] e n r f = (refl, refl)
 each_spelled levels (i ∷ is) e n r f =
     let rs = and_parts (keys_rise i) (list_all keys_rise is) r in
     let fs = and_parts (fits i) (list_all fits is) f in
-    let first : nesting_of i ≤ levels = omega arith in
-    let others : largest_over nesting_of is ≤ levels = omega arith in
-    (count_of i, sum_over count_of is, spelling i, flat_map spelling is, e.0 levels first rs.0 fs.0, each_spelled levels is e.1 others rs.1 fs.1, refl, refl)
+    let first : item_nesting i ≤ levels = omega arith in
+    let others : largest_over item_nesting is ≤ levels = omega arith in
+    (count_of i, sum_over count_of is, encoding_of i, flat_map encoding_of is, e.0 levels first rs.0 fs.0, each_spelled levels is e.1 others rs.1 fs.1, refl, refl)
 
-entries_spelled : (levels : ℕ) (ps : List (Pair Item)) → AllByRecursion (λ (p : Pair Item). Spelled p.value) ps → largest_over (λ (p : Pair Item). nesting_of p.value) ps ≤ levels → list_all (λ (p : Pair Item). keys_rise p.value) ps ≡ true → list_all (λ (p : Pair Item). ltb p.key (2 ^ 64) && fits p.value) ps ≡ true
-    → SpellsEntries (Spells levels) (entries_of ps) (sum_over (λ (p : Pair Item). suc (count_of p.value)) ps) (flat_map (λ (p : Pair Item). head_of 0 p.key ++ spelling p.value) ps)
+entries_spelled : (levels : ℕ) (ps : List (Pair Item)) → AllByRecursion (λ (p : Pair Item). Spelled p.value) ps → largest_over (λ (p : Pair Item). item_nesting p.value) ps ≤ levels → list_all (λ (p : Pair Item). keys_rise p.value) ps ≡ true → list_all (λ (p : Pair Item). ltb p.key (2 ^ 64) && fits p.value) ps ≡ true
+    → EncodesEntries (Encodes levels) (entries_of ps) (sum_over (λ (p : Pair Item). suc (count_of p.value)) ps) (flat_map (λ (p : Pair Item). head_of 0 p.key ++ encoding_of p.value) ps)
 unfolding entries_of
 entries_spelled levels [] e n r f = (refl, refl)
 entries_spelled levels (p ∷ ps) e n r f =
     let rs = and_parts (keys_rise p.value) (list_all (λ (q : Pair Item). keys_rise q.value) ps) r in
     let fs = and_parts (ltb p.key (2 ^ 64) && fits p.value) (list_all (λ (q : Pair Item). ltb q.key (2 ^ 64) && fits q.value) ps) f in
     let gs = and_parts (ltb p.key (2 ^ 64)) (fits p.value) fs.0 in
-    let first : nesting_of p.value ≤ levels = omega arith in
-    let others : largest_over (λ (q : Pair Item). nesting_of q.value) ps ≤ levels = omega arith in
-    let rest = flat_map (λ (q : Pair Item). head_of 0 q.key ++ spelling q.value) ps in
+    let first : item_nesting p.value ≤ levels = omega arith in
+    let others : largest_over (λ (q : Pair Item). item_nesting q.value) ps ≤ levels = omega arith in
+    let rest = flat_map (λ (q : Pair Item). head_of 0 q.key ++ encoding_of q.value) ps in
     let more = sum_over (λ (q : Pair Item). suc (count_of q.value)) ps in (
       count_of p.value,
       more,
       head_of 0 p.key,
-      spelling p.value,
+      encoding_of p.value,
       rest,
       (ltb-true p.key (2 ^ 64) gs.0, refl),
       e.0 levels first rs.0 gs.1,
       entries_spelled levels ps e.1 others rs.1 fs.1,
       omega arith,
-      append_assoc (head_of 0 p.key) (spelling p.value) rest,
+      append_assoc (head_of 0 p.key) (encoding_of p.value) rest,
     )
 
 list_spelled : (is : List Item) → AllByRecursion Spelled is → Spelled (v.List is)
-unfolding Spells
+unfolding Encodes
 list_spelled is e zero n r f = absurd (omega (arith, nesting-List is))
 list_spelled is e (suc levels) n r f =
     let o = of-List is f in
-    let within : largest_over nesting_of is ≤ levels = omega (arith, nesting-List is) in
-    inr (inl (is, sum_over count_of is, flat_map spelling is, refl, o.0, each_spelled levels is e within (sym (rise-List is) ∙ r) o.1, count-List is, spelling-List is))
+    let within : largest_over item_nesting is ≤ levels = omega (arith, nesting-List is) in
+    inr (inl (is, sum_over count_of is, flat_map encoding_of is, refl, o.0, each_spelled levels is e within (sym (rise-List is) ∙ r) o.1, count-List is, spelling-List is))
 
 map_spelled : (ps : List (Pair Item)) → AllByRecursion (λ (p : Pair Item). Spelled p.value) ps → Spelled (v.Map ps)
-unfolding Spells
+unfolding Encodes
 map_spelled ps e zero n r f = absurd (omega (arith, nesting-Map ps))
 map_spelled ps e (suc levels) n r f =
     let o = of-Map ps f in
     let a = and_parts (rise (map (λ (p : Pair Item). p.key) ps)) (list_all (λ (p : Pair Item). keys_rise p.value) ps) (sym (rise-Map ps) ∙ r) in
     let rising = rising_from ps a.0 in
-    let within : largest_over (λ (p : Pair Item). nesting_of p.value) ps ≤ levels = omega (arith, nesting-Map ps) in
+    let within : largest_over (λ (p : Pair Item). item_nesting p.value) ps ≤ levels = omega (arith, nesting-Map ps) in
     let put : put_all [] (entries_of ps) ≡ entries_of ps = put_rising (entries_of ps) [] rising (after_none (entries_of ps)) in
     let is : v.Map ps ≡ v.Map (pairs_of (put_all [] (entries_of ps))) = ap (λ (qs : List (Pair Item)). v.Map qs) (sym (ap pairs_of put ∙ same_pairs ps)) in
     let long : length (entries_of ps) < 2 ^ 64 = omega (arith, same_length ps, o.0) in
-    let text : spelling (v.Map ps) ≡ head_of 5 (length (entries_of ps)) ++ flat_map (λ (p : Pair Item). head_of 0 p.key ++ spelling p.value) ps = rw (same_length ps) (spelling-Map ps) in
-    inr (inr (entries_of ps, sum_over (λ (p : Pair Item). suc (count_of p.value)) ps, flat_map (λ (p : Pair Item). head_of 0 p.key ++ spelling p.value) ps, is, keys_differ (entries_of ps) rising, long, entries_spelled levels ps e within a.1 o.1, count-Map ps, text))
+    let text : encoding_of (v.Map ps) ≡ head_of 5 (length (entries_of ps)) ++ flat_map (λ (p : Pair Item). head_of 0 p.key ++ encoding_of p.value) ps = rw (same_length ps) (spelling-Map ps) in
+    inr (inr (entries_of ps, sum_over (λ (p : Pair Item). suc (count_of p.value)) ps, flat_map (λ (p : Pair Item). head_of 0 p.key ++ encoding_of p.value) ps, is, keys_differ (entries_of ps) rising, long, entries_spelled levels ps e within a.1 o.1, count-Map ps, text))
 
 pub spelled : (item : Item) → Spelled item
 spelled = by_cases Spelled record {
@@ -258,5 +259,5 @@ spelled = by_cases Spelled record {
   pairs = map_spelled;
 }
 
-pub is_spelled : (item : Item) (out start : List ℕ) → start ≡ [] → out ≡ start ++ spelling item → fits item ≡ true → keys_rise item ≡ true → nesting_of item ≤ 4 → Spells 4 item (count_of item) out
-is_spelled item out start none is f r n = subst (λ (z : List ℕ). Spells 4 item (count_of item) z) (sym (is ∙ ap (λ (z : List ℕ). z ++ spelling item) none)) (spelled item 4 n r f)
+pub is_spelled : (item : Item) (out start : List ℕ) → start ≡ [] → out ≡ start ++ encoding_of item → fits item ≡ true → keys_rise item ≡ true → item_nesting item ≤ 4 → Encodes 4 item (count_of item) out
+is_spelled item out start none is f r n = subst (λ (z : List ℕ). Encodes 4 item (count_of item) z) (sym (is ∙ ap (λ (z : List ℕ). z ++ encoding_of item) none)) (spelled item 4 n r f)

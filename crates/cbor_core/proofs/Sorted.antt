@@ -11,8 +11,9 @@ use Rattle.cbor_core.specs.declared.item.Item.{Item, fold-roll-Item}
 use Rattle.cbor_core.specs.declared.item.Item.TheOpen.{Item-F}
 use Rattle.cbor_core.specs.declared.item.Item.TheVariants as v
 use Rattle.cbor_core.specs.declared.item.Pair.{Pair}
-use Rattle.cbor_core.specs.Grammar.{SpellsFlat, SpellsEach, SpellsEntries, SpellsList, SpellsMap, Spells, KeysDiffer, put_all, pairs_of}
-use Rattle.cbor_core.specs.Writing.{sum_over, largest_over, nesting_step, nesting_of, count_of, rise, keys_rise_step, keys_rise}
+use Rattle.cbor_core.specs.Grammar.{EncodesFlat, EncodesEach, EncodesEntries, EncodesList, EncodesMap, Encodes, KeysDiffer, put_all, pairs_of}
+use Rattle.cbor_core.specs.Writing.{sum_over, largest_over, nesting_step, item_nesting, count_of, keys_rise_step, keys_rise}
+use Rattle.base_types.specs.Order.{rise}
 use Rattle.cbor_core.proofs.Keys.{has, Fresh, fresh_after, fresh_at_first}
 use Rattle.cbor_core.proofs.Lawful.{Above, Rising, nesting-List, nesting-Map, count-Whole, count-Blob, count-Text, count-List, count-Map, rise-List, rise-Map}
 
@@ -95,14 +96,14 @@ rising_rise (e ∷ es) r = rw (above_rise e.0 es r.0) (rising_rise es r.1)
 
 -- what is kept of an item that is spelled
 pub record Kept (levels : ℕ) (item : Item) (count : ℕ) : Type 0 where
-  pub nesting : nesting_of item ≤ levels
+  pub nesting : item_nesting item ≤ levels
   pub counted : count_of item ≡ count
   pub keys : keys_rise item ≡ true
 
 abbrev Inner : ℕ → Item → Type 0
-Inner levels item = (nesting_of item ≤ levels) × (keys_rise item ≡ true)
+Inner levels item = (item_nesting item ≤ levels) × (keys_rise item ≡ true)
 
-pairs_nest : (levels : ℕ) (es : List (ℕ × Item)) → Values (Inner levels) es → largest_over (λ (p : Pair Item). nesting_of p.value) (pairs_of es) ≤ levels
+pairs_nest : (levels : ℕ) (es : List (ℕ × Item)) → Values (Inner levels) es → largest_over (λ (p : Pair Item). item_nesting p.value) (pairs_of es) ≤ levels
 pairs_nest levels [] a = omega arith
 pairs_nest levels (e ∷ es) a = let rest = pairs_nest levels es a.1 in omega (arith, a.0.0, rest)
 
@@ -116,14 +117,14 @@ pairs_count (e ∷ es) = ap (λ (z : ℕ). suc (count_of e.1) + z) (pairs_count 
 
 -- ---- each kind of item
 
-nesting-Whole : (n : ℕ) → nesting_of (v.Whole n) ≡ 0
-nesting-Whole n = ap nesting_of (sym (v.rolls-Whole n)) ∙ fold-roll-Item ℕ nesting_step (Item-F.Whole n)
+nesting-Whole : (n : ℕ) → item_nesting (v.Whole n) ≡ 0
+nesting-Whole n = ap item_nesting (sym (v.rolls-Whole n)) ∙ fold-roll-Item ℕ nesting_step (Item-F.Whole n)
 
-nesting-Blob : (bytes : List ℕ) → nesting_of (v.Blob bytes) ≡ 0
-nesting-Blob bytes = ap nesting_of (sym (v.rolls-Blob bytes)) ∙ fold-roll-Item ℕ nesting_step (Item-F.Blob bytes)
+nesting-Blob : (bytes : List ℕ) → item_nesting (v.Blob bytes) ≡ 0
+nesting-Blob bytes = ap item_nesting (sym (v.rolls-Blob bytes)) ∙ fold-roll-Item ℕ nesting_step (Item-F.Blob bytes)
 
-nesting-Text : (bytes : List ℕ) → nesting_of (v.Text bytes) ≡ 0
-nesting-Text bytes = ap nesting_of (sym (v.rolls-Text bytes)) ∙ fold-roll-Item ℕ nesting_step (Item-F.Text bytes)
+nesting-Text : (bytes : List ℕ) → item_nesting (v.Text bytes) ≡ 0
+nesting-Text bytes = ap item_nesting (sym (v.rolls-Text bytes)) ∙ fold-roll-Item ℕ nesting_step (Item-F.Text bytes)
 
 rise-Whole : (n : ℕ) → keys_rise (v.Whole n) ≡ true
 rise-Whole n = ap keys_rise (sym (v.rolls-Whole n)) ∙ fold-roll-Item Bool keys_rise_step (Item-F.Whole n)
@@ -134,36 +135,36 @@ rise-Blob bytes = ap keys_rise (sym (v.rolls-Blob bytes)) ∙ fold-roll-Item Boo
 rise-Text : (bytes : List ℕ) → keys_rise (v.Text bytes) ≡ true
 rise-Text bytes = ap keys_rise (sym (v.rolls-Text bytes)) ∙ fold-roll-Item Bool keys_rise_step (Item-F.Text bytes)
 
-flat_kept : (levels : ℕ) (item : Item) (count : ℕ) (bytes : List ℕ) → count ≡ 1 → SpellsFlat item bytes → Kept levels item count
+flat_kept : (levels : ℕ) (item : Item) (count : ℕ) (bytes : List ℕ) → count ≡ 1 → EncodesFlat item bytes → Kept levels item count
 flat_kept levels item count bytes one (inl s) = subst (λ (i : Item). Kept levels i count) (sym s.1) (record { nesting = omega (arith, nesting-Whole s.0); counted = count-Whole s.0 ∙ sym one; keys = rise-Whole s.0 })
 flat_kept levels item count bytes one (inr (inl s)) = subst (λ (i : Item). Kept levels i count) (sym s.1) (record { nesting = omega (arith, nesting-Blob s.0); counted = count-Blob s.0 ∙ sym one; keys = rise-Blob s.0 })
 flat_kept levels item count bytes one (inr (inr s)) = subst (λ (i : Item). Kept levels i count) (sym s.1) (record { nesting = omega (arith, nesting-Text s.0); counted = count-Text s.0 ∙ sym one; keys = rise-Text s.0 })
 
 abbrev Keeps : ℕ → Type 0
-Keeps levels = (item : Item) (count : ℕ) (bytes : List ℕ) → Spells levels item count bytes → Kept levels item count
+Keeps levels = (item : Item) (count : ℕ) (bytes : List ℕ) → Encodes levels item count bytes → Kept levels item count
 
 module _ (levels : ℕ) (keeps : Keeps levels) where
-  each_kept : (is : List Item) (count : ℕ) (bytes : List ℕ) → SpellsEach (Spells levels) is count bytes → (largest_over nesting_of is ≤ levels) × (sum_over count_of is ≡ count) × (list_all keys_rise is ≡ true)
+  each_kept : (is : List Item) (count : ℕ) (bytes : List ℕ) → EncodesEach (Encodes levels) is count bytes → (largest_over item_nesting is ≤ levels) × (sum_over count_of is ≡ count) × (list_all keys_rise is ≡ true)
   each_kept [] count bytes s = (omega arith, sym s.0, refl)
   each_kept (i ∷ is) count bytes s =
       let first = keeps i s.0 s.2 s.4 in
       let rest = each_kept is s.1 s.3 s.5 in
       (omega (arith, first.nesting, rest.0), omega (arith, first.counted, rest.1, s.6), rw first.keys rest.2)
 
-  entries_kept : (es : List (ℕ × Item)) (count : ℕ) (bytes : List ℕ) → SpellsEntries (Spells levels) es count bytes → Values (Inner levels) es × (sum_over (λ (e : ℕ × Item). suc (count_of e.1)) es ≡ count)
+  entries_kept : (es : List (ℕ × Item)) (count : ℕ) (bytes : List ℕ) → EncodesEntries (Encodes levels) es count bytes → Values (Inner levels) es × (sum_over (λ (e : ℕ × Item). suc (count_of e.1)) es ≡ count)
   entries_kept [] count bytes s = (tt, sym s.0)
   entries_kept (e ∷ es) count bytes s =
       let first = keeps e.1 s.0 s.3 s.6 in
       let rest = entries_kept es s.1 s.4 s.7 in
       (((first.nesting, first.keys), rest.0), omega (arith, first.counted, rest.1, s.8))
 
-  list_kept : (item : Item) (count : ℕ) (bytes : List ℕ) → SpellsList (Spells levels) item count bytes → Kept (suc levels) item count
+  list_kept : (item : Item) (count : ℕ) (bytes : List ℕ) → EncodesList (Encodes levels) item count bytes → Kept (suc levels) item count
   list_kept item count bytes s =
       let is = s.0 in
       let each = each_kept is s.1 s.2 s.5 in
       subst (λ (i : Item). Kept (suc levels) i count) (sym s.3) (record { nesting = omega (arith, nesting-List is, each.0); counted = count-List is ∙ ap suc each.1 ∙ sym s.6; keys = rise-List is ∙ each.2 })
 
-  map_kept : (item : Item) (count : ℕ) (bytes : List ℕ) → SpellsMap (Spells levels) item count bytes → Kept (suc levels) item count
+  map_kept : (item : Item) (count : ℕ) (bytes : List ℕ) → EncodesMap (Encodes levels) item count bytes → Kept (suc levels) item count
   map_kept item count bytes s =
       let es = put_all [] s.0 in
       let each = entries_kept s.0 s.1 s.2 s.6 in
@@ -177,7 +178,7 @@ module _ (levels : ℕ) (keeps : Keeps levels) where
       })
 
 pub kept : (levels : ℕ) → Keeps levels
-unfolding Spells
+unfolding Encodes
 kept zero item count bytes s = flat_kept 0 item count bytes s.1 s.0
 kept (suc levels) item count bytes (inl s) = flat_kept (suc levels) item count bytes s.1 s.0
 kept (suc levels) item count bytes (inr (inl s)) = list_kept levels (kept levels) item count bytes s

@@ -12,7 +12,7 @@ use Rattle.cbor_core.specs.declared.item.Item.TheOpen.{Item-F}
 use Rattle.cbor_core.specs.declared.item.Item.TheVariants as v
 use Rattle.cbor_core.specs.declared.item.Pair.{Pair}
 use Rattle.cbor_core.specs.Grammar.{head_of}
-use Rattle.cbor_core.specs.Writing.{sum_over, largest_over, spelling_step, spelling, fits_step, fits}
+use Rattle.cbor_core.specs.Writing.{sum_over, largest_over, encoding_step, encoding_of, fits_step, fits}
 
 pub head_front : (major value len : ℕ) (bytes : List ℕ) → len ≡ length (head_of major value) → bytes ≡ head_of major value ++ replicate (9 - length (head_of major value)) 0 → take len bytes ≡ head_of major value
 head_front major value len bytes l b = rw b (take_at (head_of major value) (replicate (9 - length (head_of major value)) 0) len (sym l))
@@ -35,24 +35,24 @@ largest_over-map f g (x ∷ xs) = ap (λ z. max (f (g x)) z) (largest_over-map f
 
 -- ---- the spelling
 
-pub spelling-Whole : (n : ℕ) → spelling (v.Whole n) ≡ head_of 0 n
-spelling-Whole n = ap spelling (sym (v.rolls-Whole n)) ∙ fold-roll-Item (List ℕ) spelling_step (Item-F.Whole n)
+pub spelling-Whole : (n : ℕ) → encoding_of (v.Whole n) ≡ head_of 0 n
+spelling-Whole n = ap encoding_of (sym (v.rolls-Whole n)) ∙ fold-roll-Item (List ℕ) encoding_step (Item-F.Whole n)
 
-pub spelling-Blob : (bytes : List ℕ) → spelling (v.Blob bytes) ≡ head_of 2 (length bytes) ++ bytes
-spelling-Blob bytes = ap spelling (sym (v.rolls-Blob bytes)) ∙ fold-roll-Item (List ℕ) spelling_step (Item-F.Blob bytes)
+pub spelling-Blob : (bytes : List ℕ) → encoding_of (v.Blob bytes) ≡ head_of 2 (length bytes) ++ bytes
+spelling-Blob bytes = ap encoding_of (sym (v.rolls-Blob bytes)) ∙ fold-roll-Item (List ℕ) encoding_step (Item-F.Blob bytes)
 
-pub spelling-Text : (bytes : List ℕ) → spelling (v.Text bytes) ≡ head_of 3 (length bytes) ++ bytes
-spelling-Text bytes = ap spelling (sym (v.rolls-Text bytes)) ∙ fold-roll-Item (List ℕ) spelling_step (Item-F.Text bytes)
+pub spelling-Text : (bytes : List ℕ) → encoding_of (v.Text bytes) ≡ head_of 3 (length bytes) ++ bytes
+spelling-Text bytes = ap encoding_of (sym (v.rolls-Text bytes)) ∙ fold-roll-Item (List ℕ) encoding_step (Item-F.Text bytes)
 
-pub spelling-List : (items : List Item) → spelling (v.List items) ≡ head_of 4 (length items) ++ flat_map spelling items
-spelling-List items = ap spelling (sym (v.rolls-List items)) ∙ fold-roll-Item (List ℕ) spelling_step (Item-F.List items) ∙ rw (length-map items spelling, flat_map-map (λ (i : List ℕ). i) spelling items) refl
+pub spelling-List : (items : List Item) → encoding_of (v.List items) ≡ head_of 4 (length items) ++ flat_map encoding_of items
+spelling-List items = ap encoding_of (sym (v.rolls-List items)) ∙ fold-roll-Item (List ℕ) encoding_step (Item-F.List items) ∙ rw (length-map items encoding_of, flat_map-map (λ (i : List ℕ). i) encoding_of items) refl
 
 unfoldable pub seen : {X : Type 0} → (Item → X) → Pair Item → Pair X
 seen g p = record { key = p.key; value = g p.value }
 
-pub spelling-Map : (pairs : List (Pair Item)) → spelling (v.Map pairs) ≡ head_of 5 (length pairs) ++ flat_map (λ p. head_of 0 p.key ++ spelling p.value) pairs
+pub spelling-Map : (pairs : List (Pair Item)) → encoding_of (v.Map pairs) ≡ head_of 5 (length pairs) ++ flat_map (λ p. head_of 0 p.key ++ encoding_of p.value) pairs
 unfolding seen
-spelling-Map pairs = ap spelling (sym (v.rolls-Map pairs)) ∙ fold-roll-Item (List ℕ) spelling_step (Item-F.Map pairs) ∙ rw (length-map pairs (seen spelling), flat_map-map (λ (p : Pair (List ℕ)). head_of 0 p.key ++ p.value) (seen spelling) pairs) refl
+spelling-Map pairs = ap encoding_of (sym (v.rolls-Map pairs)) ∙ fold-roll-Item (List ℕ) encoding_step (Item-F.Map pairs) ∙ rw (length-map pairs (seen encoding_of), flat_map-map (λ (p : Pair (List ℕ)). head_of 0 p.key ++ p.value) (seen encoding_of) pairs) refl
 
 -- ---- what the types keep
 

@@ -30,14 +30,14 @@ IsString major content bytes = (length content < 2 ^ 64) × (bytes ≡ head_of m
 
 -- Below, `spells item count bytes` says what spells the items inside a list or a map.
 -- The bytes spell these items one after another, count of them with all that they hold.
-abbrev pub SpellsEach : (Item → ℕ → List ℕ → Type 0) → List Item → ℕ → List ℕ → Type 0
-SpellsEach spells [] count bytes = (count ≡ 0) × (bytes ≡ [])
-SpellsEach spells (item ∷ items) count bytes = (m n : ℕ) × (front back : List ℕ) × spells item m front × SpellsEach spells items n back × (count ≡ m + n) × (bytes ≡ front ++ back)
+abbrev pub EncodesEach : (Item → ℕ → List ℕ → Type 0) → List Item → ℕ → List ℕ → Type 0
+EncodesEach spells [] count bytes = (count ≡ 0) × (bytes ≡ [])
+EncodesEach spells (item ∷ items) count bytes = (m n : ℕ) × (front back : List ℕ) × spells item m front × EncodesEach spells items n back × (count ≡ m + n) × (bytes ≡ front ++ back)
 
 -- The bytes spell these entries of a map one after another, each a key and its value. A key is an item too.
-abbrev pub SpellsEntries : (Item → ℕ → List ℕ → Type 0) → List (ℕ × Item) → ℕ → List ℕ → Type 0
-SpellsEntries spells [] count bytes = (count ≡ 0) × (bytes ≡ [])
-SpellsEntries spells (entry ∷ entries) count bytes = (m n : ℕ) × (key front back : List ℕ) × IsHead 0 entry.0 key × spells entry.1 m front × SpellsEntries spells entries n back × (count ≡ suc (m + n)) × (bytes ≡ key ++ (front ++ back))
+abbrev pub EncodesEntries : (Item → ℕ → List ℕ → Type 0) → List (ℕ × Item) → ℕ → List ℕ → Type 0
+EncodesEntries spells [] count bytes = (count ≡ 0) × (bytes ≡ [])
+EncodesEntries spells (entry ∷ entries) count bytes = (m n : ℕ) × (key front back : List ℕ) × IsHead 0 entry.0 key × spells entry.1 m front × EncodesEntries spells entries n back × (count ≡ suc (m + n)) × (bytes ≡ key ++ (front ++ back))
 
 -- no key stands twice
 abbrev pub KeysDiffer : List (ℕ × Item) → Type 0
@@ -54,22 +54,22 @@ abbrev pub pairs_of : List (ℕ × Item) → List (Pair Item)
 pairs_of entries = map (λ e. record { key = e.0; value = e.1 }) entries
 
 -- an item that holds no others: major types 0, 2 and 3 (RFC 8949, 3.1)
-abbrev pub SpellsFlat : Item → List ℕ → Type 0
-SpellsFlat item bytes =
+abbrev pub EncodesFlat : Item → List ℕ → Type 0
+EncodesFlat item bytes =
     ((n : ℕ) × (item ≡ v.Whole n) × IsHead 0 n bytes)
     ⊎ (((content : List ℕ) × (item ≡ v.Blob content) × IsString 2 content bytes)
     ⊎ ((content : List ℕ) × (item ≡ v.Text content) × IsUtf8 content × IsString 3 content bytes))
 
 -- a list: major type 4 with the number of its items, and then these
-abbrev pub SpellsList : (Item → ℕ → List ℕ → Type 0) → Item → ℕ → List ℕ → Type 0
-SpellsList spells item count bytes = (items : List Item) × (n : ℕ) × (rest : List ℕ) × (item ≡ v.List items) × (length items < 2 ^ 64) × SpellsEach spells items n rest × (count ≡ suc n) × (bytes ≡ head_of 4 (length items) ++ rest)
+abbrev pub EncodesList : (Item → ℕ → List ℕ → Type 0) → Item → ℕ → List ℕ → Type 0
+EncodesList spells item count bytes = (items : List Item) × (n : ℕ) × (rest : List ℕ) × (item ≡ v.List items) × (length items < 2 ^ 64) × EncodesEach spells items n rest × (count ≡ suc n) × (bytes ≡ head_of 4 (length items) ++ rest)
 
 -- a map: major type 5 with the number of its entries, and then these, in any order of keys; the item has its pairs by rising key
-abbrev pub SpellsMap : (Item → ℕ → List ℕ → Type 0) → Item → ℕ → List ℕ → Type 0
-SpellsMap spells item count bytes = (entries : List (ℕ × Item)) × (n : ℕ) × (rest : List ℕ) × (item ≡ v.Map (pairs_of (put_all [] entries))) × KeysDiffer entries × (length entries < 2 ^ 64) × SpellsEntries spells entries n rest × (count ≡ suc n) × (bytes ≡ head_of 5 (length entries) ++ rest)
+abbrev pub EncodesMap : (Item → ℕ → List ℕ → Type 0) → Item → ℕ → List ℕ → Type 0
+EncodesMap spells item count bytes = (entries : List (ℕ × Item)) × (n : ℕ) × (rest : List ℕ) × (item ≡ v.Map (pairs_of (put_all [] entries))) × KeysDiffer entries × (length entries < 2 ^ 64) × EncodesEntries spells entries n rest × (count ≡ suc n) × (bytes ≡ head_of 5 (length entries) ++ rest)
 
 -- The bytes spell the item, in which lists and maps nest at most `levels` deep, and with which there are
 -- `count` items, those inside and the keys of maps counted.
-unfoldable pub Spells : ℕ → Item → ℕ → List ℕ → Type 0
-Spells zero item count bytes = SpellsFlat item bytes × (count ≡ 1)
-Spells (suc levels) item count bytes = (SpellsFlat item bytes × (count ≡ 1)) ⊎ (SpellsList (Spells levels) item count bytes ⊎ SpellsMap (Spells levels) item count bytes)
+unfoldable pub Encodes : ℕ → Item → ℕ → List ℕ → Type 0
+Encodes zero item count bytes = EncodesFlat item bytes × (count ≡ 1)
+Encodes (suc levels) item count bytes = (EncodesFlat item bytes × (count ≡ 1)) ⊎ (EncodesList (Encodes levels) item count bytes ⊎ EncodesMap (Encodes levels) item count bytes)

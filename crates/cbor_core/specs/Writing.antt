@@ -6,6 +6,7 @@ use Rattle.std.specs.Str.{is_utf8}
 use Rattle.cbor_core.specs.declared.item.Item.{Item, fold-Item}
 use Rattle.cbor_core.specs.declared.item.Item.TheOpen.{Item-F}
 use Rattle.cbor_core.specs.declared.item.Pair.{Pair}
+use Rattle.base_types.specs.Order.{rise}
 use Rattle.cbor_core.specs.Grammar.{head_of}
 
 -- a sum, and the largest, over a list
@@ -18,15 +19,15 @@ largest_over f [] = 0
 largest_over f (x ∷ xs) = max (f x) (largest_over f xs)
 
 -- the bytes of an item: its head, its content, and its items in order
-abbrev pub spelling_step : Item-F (List ℕ) → List ℕ
-spelling_step (Item-F.Whole n) = head_of 0 n
-spelling_step (Item-F.Blob content) = head_of 2 (length content) ++ content
-spelling_step (Item-F.Text content) = head_of 3 (length content) ++ content
-spelling_step (Item-F.List items) = head_of 4 (length items) ++ flat_map (λ i. i) items
-spelling_step (Item-F.Map pairs) = head_of 5 (length pairs) ++ flat_map (λ (p : Pair (List ℕ)). head_of 0 p.key ++ p.value) pairs
+abbrev pub encoding_step : Item-F (List ℕ) → List ℕ
+encoding_step (Item-F.Whole n) = head_of 0 n
+encoding_step (Item-F.Blob content) = head_of 2 (length content) ++ content
+encoding_step (Item-F.Text content) = head_of 3 (length content) ++ content
+encoding_step (Item-F.List items) = head_of 4 (length items) ++ flat_map (λ i. i) items
+encoding_step (Item-F.Map pairs) = head_of 5 (length pairs) ++ flat_map (λ (p : Pair (List ℕ)). head_of 0 p.key ++ p.value) pairs
 
-abbrev pub spelling : Item → List ℕ
-spelling = fold-Item (List ℕ) spelling_step
+abbrev pub encoding_of : Item → List ℕ
+encoding_of = fold-Item (List ℕ) encoding_step
 
 -- how deep lists and maps nest; an item that holds none has nesting 0
 abbrev pub nesting_step : Item-F ℕ → ℕ
@@ -36,8 +37,8 @@ nesting_step (Item-F.Text content) = 0
 nesting_step (Item-F.List items) = suc (largest_over (λ i. i) items)
 nesting_step (Item-F.Map pairs) = suc (largest_over (λ (p : Pair ℕ). p.value) pairs)
 
-abbrev pub nesting_of : Item → ℕ
-nesting_of = fold-Item ℕ nesting_step
+abbrev pub item_nesting : Item → ℕ
+item_nesting = fold-Item ℕ nesting_step
 
 -- how many items there are, those inside and the keys of maps counted
 abbrev pub count_step : Item-F ℕ → ℕ
@@ -49,11 +50,6 @@ count_step (Item-F.Map pairs) = suc (sum_over (λ (p : Pair ℕ). suc p.value) p
 
 abbrev pub count_of : Item → ℕ
 count_of = fold-Item ℕ count_step
-
--- each number is below those after it
-abbrev pub rise : List ℕ → Bool
-rise [] = true
-rise (k ∷ ks) = list_all (nat_lt k) ks && rise ks
 
 -- the keys of each map rise
 abbrev pub keys_rise_step : Item-F Bool → Bool

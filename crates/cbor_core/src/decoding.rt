@@ -1,8 +1,8 @@
 ghost use Rattle.std.specs.Prelude.{◌≡◌, ◌≤◌, ◌<◌, ℕ, [], true, length, take, IfOk, Ok, Err};
 ghost use Rattle.cbor_core.specs.declared.item.Item.{Item};
 ghost use Rattle.cbor_core.specs.declared.fault.CborFault.TheVariants.{Trailing};
-ghost use Rattle.cbor_core.specs.Grammar.{pairs_of, Spells};
-ghost use Rattle.cbor_core.specs.Writing.{nesting_of, count_of, keys_rise};
+ghost use Rattle.cbor_core.specs.Grammar.{pairs_of, Encodes};
+ghost use Rattle.cbor_core.specs.Writing.{item_nesting, count_of, keys_rise};
 ghost use Rattle.cbor_core.specs.Reading.{Gives, items_at, entries_at, list_at, map_at, item_at, reading};
 
 use crate::fault::CborFault;
@@ -167,15 +167,15 @@ fn read_all(alloc: Global, bytes: &[u8]) -> Result<Item, CborFault>
 /// Each refusal is the first one from left to right, as `CborFault` says.
 pub fn decode(alloc: Global, bytes: &[u8]) -> Result<Item, CborFault>
     // What is read is spelled by the bytes, all of them.
-    ensures found { IfOk result (λ item. Spells 4 item (count_of item) bytes.now) }
+    ensures found { IfOk result (λ item. Encodes 4 item (count_of item) bytes.now) }
     // It may be written: its maps have rising keys, and it keeps the limits.
     ensures keys { IfOk result (λ item. keys_rise item ≡ true) }
-    ensures nesting { IfOk result (λ item. nesting_of item ≤ 4) }
+    ensures nesting { IfOk result (λ item. item_nesting item ≤ 4) }
     ensures count { IfOk result (λ item. count_of item ≤ 100000) }
     // What is spelled within the limits is read, unless memory runs out.
-    ensures only { (item : Item) (count : ℕ) → count ≤ 100000 → Spells 4 item count bytes.now → Gives (λ x. x) result (Ok item) }
+    ensures only { (item : Item) (count : ℕ) → count ≤ 100000 → Encodes 4 item count bytes.now → Gives (λ x. x) result (Ok item) }
     // Where a front of the bytes spells an item, what follows it is refused, and nothing else is.
-    ensures trailing { (item : Item) (count n : ℕ) → n < length bytes.now → count ≤ 100000 → Spells 4 item count (take n bytes.now) → Gives (λ x. x) result (Err (Trailing n)) }
+    ensures trailing { (item : Item) (count n : ℕ) → n < length bytes.now → count ≤ 100000 → Encodes 4 item count (take n bytes.now) → Gives (λ x. x) result (Err (Trailing n)) }
     // Which item, or which refusal, it is.
     ensures exact { Gives (λ x. x) result (reading bytes.now) }
 {

@@ -1,8 +1,8 @@
 ghost use Rattle.std.specs.Prelude.{◌≡◌, ◌≤◌, ◌<◌, ◌&&◌, ◌^◌, ◌++◌, true, length, nat_lt, IfOk, OnOk, Ok};
 ghost use Rattle.std.specs.List.{flat_map, list_all};
-ghost use Rattle.cbor_core.specs.Grammar.{head_of, Spells};
+ghost use Rattle.cbor_core.specs.Grammar.{head_of, Encodes};
 ghost use Rattle.cbor_core.specs.Reading.{reading};
-ghost use Rattle.cbor_core.specs.Writing.{spelling, nesting_of, count_of, keys_rise, fits};
+ghost use Rattle.cbor_core.specs.Writing.{encoding_of, item_nesting, count_of, keys_rise, fits};
 
 use crate::heads::head;
 use crate::item::{Item, Pair};
@@ -32,7 +32,7 @@ fn write_string(out: &mut Vec<u8>, major: u8, content: &[u8]) -> Result<(), Memo
 #[cycle(writing)]
 #[tactic(auto, using(crate::proofs::Writes::item_writes))]
 fn write_item(out: &mut Vec<u8>, item: &Item) -> Result<(), Memory>
-    ensures written { OnOk result (out.new.items ≡ out.old.items ++ spelling item.now) }
+    ensures written { OnOk result (out.new.items ≡ out.old.items ++ encoding_of item.now) }
     ensures fits { OnOk result (fits item.now ≡ true) }
 {
     match item {
@@ -64,7 +64,7 @@ fn write_item(out: &mut Vec<u8>, item: &Item) -> Result<(), Memory>
 #[cycle(writing)]
 #[tactic(auto, using(crate::proofs::Writes::item_writes))]
 fn write_items(out: &mut Vec<u8>, items: &[Item]) -> Result<(), Memory>
-    ensures written { OnOk result (out.new.items ≡ out.old.items ++ flat_map spelling items.now) }
+    ensures written { OnOk result (out.new.items ≡ out.old.items ++ flat_map encoding_of items.now) }
     ensures fits { OnOk result (list_all fits items.now ≡ true) }
 {
     for item in items {
@@ -76,7 +76,7 @@ fn write_items(out: &mut Vec<u8>, items: &[Item]) -> Result<(), Memory>
 #[cycle(writing)]
 #[tactic(auto, using(crate::proofs::Writes::item_writes))]
 fn write_pairs(out: &mut Vec<u8>, pairs: &[Pair]) -> Result<(), Memory>
-    ensures written { OnOk result (out.new.items ≡ out.old.items ++ flat_map (λ p. head_of 0 p.key ++ spelling p.value) pairs.now) }
+    ensures written { OnOk result (out.new.items ≡ out.old.items ++ flat_map (λ p. head_of 0 p.key ++ encoding_of p.value) pairs.now) }
     ensures fits { OnOk result (list_all (λ p. nat_lt p.key (2 ^ 64) && fits p.value) pairs.now ≡ true) }
 {
     for pair in pairs {
@@ -90,12 +90,12 @@ fn write_pairs(out: &mut Vec<u8>, pairs: &[Pair]) -> Result<(), Memory>
 /// most 4 deep and which has at most 100,000 items, keys counted.
 pub fn encode(alloc: Global, item: &Item) -> Result<Vec<u8>, Memory>
     requires keys { keys_rise item.now ≡ true }
-    requires nesting { nesting_of item.now ≤ 4 }
+    requires nesting { item_nesting item.now ≤ 4 }
     requires count { count_of item.now ≤ 100000 }
     // The bytes are the head of each item, in order, with what it holds.
-    ensures written { IfOk result (λ bytes. bytes.items ≡ spelling item.now) }
+    ensures written { IfOk result (λ bytes. bytes.items ≡ encoding_of item.now) }
     // They spell the item.
-    ensures spelled { IfOk result (λ bytes. Spells 4 item.now (count_of item.now) bytes.items) }
+    ensures spelled { IfOk result (λ bytes. Encodes 4 item.now (count_of item.now) bytes.items) }
     // They read back as the item.
     ensures reads_back { IfOk result (λ bytes. reading bytes.items ≡ Ok item.now) }
 {

@@ -14,7 +14,7 @@ use Rattle.json_tree.specs.declared.tree.Item.{Item}
 use Rattle.json_tree.specs.declared.tree.Member.{Member}
 use Rattle.json_tree.specs.declared.place.Step.{Step}
 use Rattle.json_tree.specs.declared.place.Step.TheVariants.{Key, At}
-use Rattle.json_tree.specs.Trees.{is_64_bits, range_step, is_in_range, greatest, levels_step, levels_of, numbered, renumber_step, renumbered, element, entry, version_step, holds_version}
+use Rattle.json_tree.specs.Trees.{is_64_bits, range_step, is_in_range, greatest, levels_step, levels_of, numbered, renumber_step, renumbered, element, new_member, version_step, holds_version}
 use Rattle.json_tree.specs.Prints.{members_data, data_step, data_of, datum}
 use Rattle.json_tree.specs.Places.{first_of, below, is_version_key, misplaced_step, misplaced, first_in_items, first_in_members}
 
@@ -96,7 +96,7 @@ renumbered-Text text = ap renumbered (sym (v.rolls-Text text)) ∙ fold-roll-Tre
 pub renumbered-List : (items : List (Item Tree)) → renumbered (v.List items) ≡ v.List (numbered 0 (map (λ i. element i.at (renumbered i.value)) items))
 renumbered-List items = ap renumbered (sym (v.rolls-List items)) ∙ fold-roll-Tree Tree renumber_step (Tree-F.List items)
 
-pub renumbered-Object : (members : List (Member Tree)) → renumbered (v.Object members) ≡ v.Object (map (λ m. entry m.key (renumbered m.value)) members)
+pub renumbered-Object : (members : List (Member Tree)) → renumbered (v.Object members) ≡ v.Object (map (λ m. new_member m.key (renumbered m.value)) members)
 renumbered-Object members = ap renumbered (sym (v.rolls-Object members)) ∙ fold-roll-Tree Tree renumber_step (Tree-F.Object members)
 
 -- ---- misplaced

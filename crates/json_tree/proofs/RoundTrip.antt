@@ -15,7 +15,7 @@ use Rattle.json_tree.specs.declared.tree.Item.{Item}
 use Rattle.json_tree.specs.declared.tree.Member.{Member}
 use Rattle.json_tree.specs.declared.place.Step.{Step}
 use Rattle.json_tree.specs.declared.place.Step.TheVariants.{Key, At}
-use Rattle.json_tree.specs.Trees.{tree_of, elements_of, entries_of, element, entry, whole_or_version, greatest, levels_of, nesting_of, nesting_limit, holds_version, numbered, renumbered}
+use Rattle.json_tree.specs.Trees.{tree_of, elements_of, entries_of, element, new_member, whole_or_version, greatest, levels_of, nesting_of, nesting_limit, holds_version, numbered, renumbered}
 use Rattle.json_tree.specs.Places.{below, or_else, misplaced, is_placed, is_version_key, first_in_items, first_in_members}
 use Rattle.json_tree.specs.Prints.{data_of, datum, members_data}
 use Rattle.json_tree.specs.Reads.{Reads}
@@ -64,7 +64,7 @@ items_back : (n : ℕ) (is : List (Item Tree)) → Each (λ (i : Item Tree). Rea
 items_back n [] e = refl
 items_back n (i ∷ is) e = rw (e.0, items_back (n + 1) is e.1) refl
 
-members_back : (ms : List (Member Tree)) → Each (λ (m : Member Tree). ReadsBack m.value) ms → entries_of (members_data (map datum ms)) ≡ map (λ m. entry m.key (renumbered m.value)) ms
+members_back : (ms : List (Member Tree)) → Each (λ (m : Member Tree). ReadsBack m.value) ms → entries_of (members_data (map datum ms)) ≡ map (λ m. new_member m.key (renumbered m.value)) ms
 members_back [] e = refl
 members_back (m ∷ ms) e = rw (e.0, members_back ms e.1) refl
 
@@ -125,7 +125,7 @@ items_stay n (i ∷ is) e h =
     let here : misplaced (renumbered i.value) false ≡ None = e.0 false (none_first (misplaced i.value false) (first_in_items is) (At i.at) h) in
     rw here (items_stay (n + 1) is e.1 (none_later (misplaced i.value false) (first_in_items is) (At i.at) h))
 
-members_stay : (ms : List (Member Tree)) → Each (λ (m : Member Tree). StaysPlaced m.value) ms → first_in_members ms ≡ None → first_in_members (map (λ m. entry m.key (renumbered m.value)) ms) ≡ None
+members_stay : (ms : List (Member Tree)) → Each (λ (m : Member Tree). StaysPlaced m.value) ms → first_in_members ms ≡ None → first_in_members (map (λ m. new_member m.key (renumbered m.value)) ms) ≡ None
 members_stay [] e h = refl
 members_stay (m ∷ ms) e h =
     let named : Bool = is_version_key m.key in

@@ -15,8 +15,8 @@ use Rattle.json_tree.specs.declared.tree.Member.{Member}
 abbrev pub element : ℕ → Tree → Item Tree
 element at value = record { at = at; value = value }
 
-abbrev pub entry : List ℕ → Tree → Member Tree
-entry key value = record { key = key; value = value }
+abbrev pub new_member : List ℕ → Tree → Member Tree
+new_member key value = record { key = key; value = value }
 
 -- The number is whole where the reader gives it as an integer of 64 bits, with a sign or without: so not
 -- where it is spelled with a fraction or an exponent, is out of this range, or is `-0`. Every other number
@@ -45,7 +45,7 @@ abbrev mutual
 
   pub entries_of : Members → List (Member Tree)
   entries_of no_members = []
-  entries_of (member k d ms) = entry k (tree_of d) ∷ entries_of ms
+  entries_of (member k d ms) = new_member k (tree_of d) ∷ entries_of ms
 
 -- whether each element of a list passes the test together with the next
 abbrev pub each_next : {X : Type 0} → (X → X → Bool) → List X → Bool

@@ -8,7 +8,7 @@ use Rattle.std.proofs.lemmas.List.Folds.{list_any-append, list_all-append, list_
 use Rattle.key_device.specs.declared.keys.KeyName.{KeyName}
 use Rattle.key_device.specs.declared.keys.Signature.{Signature}
 use Rattle.key_device.specs.declared.device.SignedEntry.{SignedEntry}
-use Rattle.key_device.specs.Devices.{entry}
+use Rattle.key_device.specs.Devices.{log_entry}
 use Rattle.key_device.specs.Exact.{is_entry-itself, found_entry}
 use Rattle.key_device.proofs.Owning.{not_true}
 use Rattle.std.proofs.lemmas.Nat.{from_be_bytes-to_be_bytes_8}
@@ -32,8 +32,8 @@ signed_under-still old new [] more all = refl
 signed_under-still old new (e ∷ es) more all = grind (arith, common_steps, more e.key, signed_under-still old new es more)
 
 -- what was signed last is accepted
-pub has_entry-last : (entries : List SignedEntry) (key : KeyName) (bytes : List ℕ) (signature : Signature) → has_entry (entries ++ entry key bytes signature ∷ []) key bytes signature ≡ true
-has_entry-last entries key bytes signature = rw (list_any-append (is_entry key bytes signature) entries (entry key bytes signature ∷ []), is_entry-itself key bytes signature) (or_true (has_entry entries key bytes signature))
+pub has_entry-last : (entries : List SignedEntry) (key : KeyName) (bytes : List ℕ) (signature : Signature) → has_entry (entries ++ log_entry key bytes signature ∷ []) key bytes signature ≡ true
+has_entry-last entries key bytes signature = rw (list_any-append (is_entry key bytes signature) entries (log_entry key bytes signature ∷ []), is_entry-itself key bytes signature) (or_true (has_entry entries key bytes signature))
 
 -- what was accepted before is accepted after one more entry
 pub has_entry-still : (entries : List SignedEntry) (e : SignedEntry) (key : KeyName) (bytes : List ℕ) (signature : Signature) → has_entry entries key bytes signature ≡ true → has_entry (entries ++ e ∷ []) key bytes signature ≡ true
@@ -41,10 +41,10 @@ has_entry-still entries e key bytes signature p = rw (list_any-append (is_entry 
 
 -- where the entries are numbered, the number of a signature in the record says where it stands
 where_recorded : (entries : List SignedEntry) (key : KeyName) (bytes : List ℕ) (signature : Signature) → IsNumbered entries → length entries < 2 ^ 64 → has_entry entries key bytes signature ≡ true
-    → (i : ℕ) × (i < length entries) × (signature_number signature ≡ i + 1) × (get_or entries i (entry key bytes signature) ≡ entry key bytes signature)
+    → (i : ℕ) × (i < length entries) × (signature_number signature ≡ i + 1) × (get_or entries i (log_entry key bytes signature) ≡ log_entry key bytes signature)
 where_recorded entries key bytes signature order small p =
-    let c : Contains entries (entry key bytes signature) = found_entry entries key bytes signature p in
-    let is : signature ≡ numbered_signature (c.0 + 1) = rw c.2 at (order c.0 (entry key bytes signature) c.1) in
+    let c : Contains entries (log_entry key bytes signature) = found_entry entries key bytes signature p in
+    let is : signature ≡ numbered_signature (c.0 + 1) = rw c.2 at (order c.0 (log_entry key bytes signature) c.1) in
     (c.0, c.1, ap signature_number is ∙ number_back (c.0 + 1) (omega arith), c.2)
 
 outside : {n m : ℕ} {Q : ℕ → Type 0} → (n ≡ 0) ⊎ (m < n) → (i : ℕ) × (i < m) × (n ≡ i + 1) × Q i → ⊥
@@ -65,8 +65,8 @@ recorded_at entries key bytes signature i e false order small lt at here is =
     sym (not_true (has_entry entries key bytes signature) (λ p.
     let w = where_recorded entries key bytes signature order small p in
     let same : w.0 ≡ i = omega (arith, w.2) in
-    let joined : e ≡ entry key bytes signature =
-    here ∙ get_or_default entries i e (entry key bytes signature) lt ∙ ap (λ (k : ℕ). get_or entries k (entry key bytes signature)) (sym same) ∙ w.3 in
+    let joined : e ≡ log_entry key bytes signature =
+    here ∙ get_or_default entries i e (log_entry key bytes signature) lt ∙ ap (λ (k : ℕ). get_or entries k (log_entry key bytes signature)) (sym same) ∙ w.3 in
     let clash : false ≡ true = is ∙ ap (is_entry key bytes signature) joined ∙ is_entry-itself key bytes signature in
     cc))
 

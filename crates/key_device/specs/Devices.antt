@@ -13,8 +13,8 @@ abbrev pub Ownership : Type 0
 Ownership = KeyName → Bool
 
 -- a key, the bytes signed under it, and the signature
-abbrev pub entry : KeyName → List ℕ → Signature → SignedEntry
-entry key bytes signature = record { key = key; bytes = bytes; signature = signature }
+abbrev pub log_entry : KeyName → List ℕ → Signature → SignedEntry
+log_entry key bytes signature = record { key = key; bytes = bytes; signature = signature }
 
 -- exactly what was accepted before is accepted after
 abbrev pub AcceptsSame : Acceptance → Acceptance → Type 0
@@ -44,7 +44,7 @@ IsSecretTold (Some told) secret = secret ≡ told
 
 -- exactly what stands in the record is accepted
 abbrev pub AcceptsExactly : List SignedEntry → Acceptance → Type 0
-AcceptsExactly entries accepts = (key : KeyName) (bytes : List ℕ) (signature : Signature) → IsTrue (accepts key bytes signature) ↔ Contains entries (entry key bytes signature)
+AcceptsExactly entries accepts = (key : KeyName) (bytes : List ℕ) (signature : Signature) → IsTrue (accepts key bytes signature) ↔ Contains entries (log_entry key bytes signature)
 
 -- each key in the record is owned
 abbrev pub OwnsEach : List SignedEntry → Ownership → Type 0

@@ -10,7 +10,7 @@ use Rattle.std.proofs.lemmas.Slice.Eq.{bytes_eq-Decides}
 use Rattle.key_device.specs.declared.keys.KeyName.{KeyName}
 use Rattle.key_device.specs.declared.keys.Signature.{Signature}
 use Rattle.key_device.specs.declared.device.SignedEntry.{SignedEntry}
-use Rattle.key_device.specs.Devices.{MeansItsRecord, entry}
+use Rattle.key_device.specs.Devices.{MeansItsRecord, log_entry}
 use Rattle.key_device.specs.Ledgers.{has_key, has_entry, signed_under, is_entry}
 
 abbrev key_of : List ℕ → KeyName
@@ -30,7 +30,7 @@ both_true false b p q = p
 
 same_parts : (x y : SignedEntry) → x.key ≡ y.key → x.bytes ≡ y.bytes → x.signature ≡ y.signature → x ≡ y
 same_parts x y p q r =
-    ap (λ (k : KeyName). entry k x.bytes x.signature) p ∙ ap (λ (b : List ℕ). entry y.key b x.signature) q ∙ ap (λ (t : Signature). entry y.key y.bytes t) r
+    ap (λ (k : KeyName). log_entry k x.bytes x.signature) p ∙ ap (λ (b : List ℕ). log_entry y.key b x.signature) q ∙ ap (λ (t : Signature). log_entry y.key y.bytes t) r
 
 -- an entry that passes as x is x
 same_entry : (x y : SignedEntry) → is_entry x.key x.bytes x.signature y ≡ true → x ≡ y
@@ -40,19 +40,19 @@ same_entry x y p =
     same_parts x y (ap key_of ((bytes_eq-Decides x.key.bytes y.key.bytes).0 parts.0)) ((bytes_eq-Decides x.bytes y.bytes).0 rest.0) (ap signature_of ((bytes_eq-Decides x.signature.bytes y.signature.bytes).0 rest.1))
 
 -- an entry passes as itself
-pub is_entry-itself : (key : KeyName) (bytes : List ℕ) (signature : Signature) → is_entry key bytes signature (entry key bytes signature) ≡ true
+pub is_entry-itself : (key : KeyName) (bytes : List ℕ) (signature : Signature) → is_entry key bytes signature (log_entry key bytes signature) ≡ true
 is_entry-itself key bytes signature =
     both_true _ _ ((bytes_eq-Decides key.bytes key.bytes).1 refl)
     (both_true _ _ ((bytes_eq-Decides bytes bytes).1 refl) ((bytes_eq-Decides signature.bytes signature.bytes).1 refl))
 
 -- what is accepted stands in the record
-pub found_entry : (entries : List SignedEntry) (key : KeyName) (bytes : List ℕ) (signature : Signature) → has_entry entries key bytes signature ≡ true → Contains entries (entry key bytes signature)
-found_entry entries key bytes signature = Contains-from_any {eq = λ x y. is_entry x.key x.bytes x.signature y} same_entry (entry key bytes signature) entries
+pub found_entry : (entries : List SignedEntry) (key : KeyName) (bytes : List ℕ) (signature : Signature) → has_entry entries key bytes signature ≡ true → Contains entries (log_entry key bytes signature)
+found_entry entries key bytes signature = Contains-from_any {eq = λ x y. is_entry x.key x.bytes x.signature y} same_entry (log_entry key bytes signature) entries
 
 -- what stands in the record is accepted
-found : (entries : List SignedEntry) (key : KeyName) (bytes : List ℕ) (signature : Signature) → Contains entries (entry key bytes signature) → has_entry entries key bytes signature ≡ true
+found : (entries : List SignedEntry) (key : KeyName) (bytes : List ℕ) (signature : Signature) → Contains entries (log_entry key bytes signature) → has_entry entries key bytes signature ≡ true
 found entries key bytes signature c =
-    list_any_at (is_entry key bytes signature) entries c.0 (entry key bytes signature) c.1 (rw c.2 (is_entry-itself key bytes signature))
+    list_any_at (is_entry key bytes signature) entries c.0 (log_entry key bytes signature) c.1 (rw c.2 (is_entry-itself key bytes signature))
 
 -- a ledger that owns the keys of its record accepts exactly what stands in it
 pub ledger_means : (keys : List KeyName) (entries : List SignedEntry) → signed_under keys entries ≡ true → MeansItsRecord (Some entries) (has_entry entries) (has_key keys)

@@ -2,7 +2,7 @@ ghost use Rattle.std.specs.Prelude.{◌≡◌, ◌≤◌, ℕ, List, Bool, true,
 ghost use Rattle.key_device.specs.declared.device.SignedEntry.{SignedEntry};
 ghost use Rattle.key_device.specs.declared.device.DeviceError.TheVariants.{Failed, NoKey};
 ghost use Rattle.base_types.specs.Counts.{HasRisen};
-ghost use Rattle.key_device.specs.Devices.{Acceptance, Ownership, AcceptsSame, StillAccepts, OwnsSame, StillOwns, GrewBy, IsSecretTold, MeansItsRecord, entry};
+ghost use Rattle.key_device.specs.Devices.{Acceptance, Ownership, AcceptsSame, StillAccepts, OwnsSame, StillOwns, GrewBy, IsSecretTold, MeansItsRecord, log_entry};
 
 use crate::keys::{KeyName, Signature};
 use base_types::{Memory, Sequence};
@@ -85,7 +85,7 @@ pub trait KeyDevice {
         ensures was_owned { OnOk result (owns self.old key.now ≡ true) }
         ensures no_key { IsErrOf result NoKey → owns self.old key.now ≡ false }
         ensures accepted { IfOk result (λ signature. accepts self.new key.now bytes.now signature ≡ true) }
-        ensures recorded { IfOk result (λ signature. GrewBy (entry key.now bytes.now signature) (signed self.old) (signed self.new)) }
+        ensures recorded { IfOk result (λ signature. GrewBy (log_entry key.now bytes.now signature) (signed self.old) (signed self.new)) }
         ensures still_accepts { StillAccepts (accepts self.old) (accepts self.new) }
         ensures refused_accepts { OnErr result (AcceptsSame (accepts self.old) (accepts self.new)) }
         ensures refused_signs { OnErr result (signed self.new ≡ signed self.old) }

@@ -2,7 +2,7 @@ ghost use Rattle.std.specs.Prelude.{◌≡◌, ◌+◌, ℕ, [], ◌∷◌, ◌+
 ghost use Rattle.std.specs.Str.{bytes_eq};
 ghost use Rattle.key_device.specs.declared.device.DeviceError.TheVariants as error;
 ghost use Rattle.key_device.specs.declared.keys.KeyName.{KeyName};
-ghost use Rattle.key_device.specs.Devices.{StillAccepts, OwnsSame, StillOwns, entry};
+ghost use Rattle.key_device.specs.Devices.{StillAccepts, OwnsSame, StillOwns, log_entry};
 ghost use Rattle.base_types.specs.Counts.{one_more};
 ghost use Rattle.key_device.specs.Ledgers.{has_key, has_entry, numbered_signature, numbered_key, numbered_secret, signed_under, signature_number, is_entry, IsNumbered, IsNextFree};
 
@@ -169,7 +169,7 @@ impl KeyDevice for LedgerDevice {
     #[tactic(auto, using(crate::proofs::Recording::recording))]
     fn sign(&mut self, key: &KeyName, bytes: &[u8]) -> Result<Signature, DeviceError>
         ensures signature { IfOk result (λ signature. signature ≡ numbered_signature (length self.old.signed + 1)) }
-        ensures signs { IfOk result (λ signature. self.new ≡ record self.old { signed = self.old.signed ++ entry key.now bytes.now signature ∷ [] }) }
+        ensures signs { IfOk result (λ signature. self.new ≡ record self.old { signed = self.old.signed ++ log_entry key.now bytes.now signature ∷ [] }) }
         ensures not_owned { has_key self.old.owned key.now ≡ false → result ≡ Err error.NoKey }
         ensures no_key { IsErrOf result error.NoKey → has_key self.old.owned key.now ≡ false }
         ensures never_fails { IsErrOf result error.Failed → ⊥ }

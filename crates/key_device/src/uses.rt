@@ -4,7 +4,7 @@ ghost use Rattle.key_device.specs.declared.device.DeviceError.TheVariants.{Faile
 ghost use Rattle.key_device.specs.declared.device.SignedEntry.{SignedEntry};
 ghost use Rattle.key_device.specs.declared.keys.Signature.{Signature};
 ghost use Rattle.base_types.specs.Counts.{HasRisen};
-ghost use Rattle.key_device.specs.Devices.{AcceptsExactly, GrewBy, entry};
+ghost use Rattle.key_device.specs.Devices.{AcceptsExactly, GrewBy, log_entry};
 
 use crate::device::{DeviceError, KeyDevice};
 use crate::keys::{KeyName, Signature};
@@ -17,7 +17,7 @@ pub fn sign_and_check<D: KeyDevice>(
     bytes: &[u8],
 ) -> Result<bool, DeviceError>
     ensures yes { IfOk result (λ yes. yes ≡ true) }
-    ensures signed { OnOk result ((signature : Signature) × (D.accepts device.new key.now bytes.now signature ≡ true) × GrewBy (entry key.now bytes.now signature) (D.signed device.old) (D.signed device.new)) }
+    ensures signed { OnOk result ((signature : Signature) × (D.accepts device.new key.now bytes.now signature ≡ true) × GrewBy (log_entry key.now bytes.now signature) (D.signed device.old) (D.signed device.new)) }
     ensures no_key { IsErrOf result NoKey → D.owns device.old key.now ≡ false }
     ensures failed { IsErrOf result Failed → HasRisen (D.faults device.old) (D.faults device.new) }
     ensures counted { D.faults device.old ≤ D.faults device.new }
@@ -33,7 +33,7 @@ pub fn sign_for_record<D: KeyDevice>(
     key: &KeyName,
     bytes: &[u8],
 ) -> Result<Signature, DeviceError>
-    ensures grew { D.exact device.old ≡ true → IfOk result (λ signature. (entries : List SignedEntry) × (D.signed device.old ≡ Some entries) × (D.signed device.new ≡ Some (entries ++ entry key.now bytes.now signature ∷ []))) }
+    ensures grew { D.exact device.old ≡ true → IfOk result (λ signature. (entries : List SignedEntry) × (D.signed device.old ≡ Some entries) × (D.signed device.new ≡ Some (entries ++ log_entry key.now bytes.now signature ∷ []))) }
     ensures accepts { D.exact device.old ≡ true → IfSome (D.signed device.new) (λ entries. AcceptsExactly entries (D.accepts device.new)) }
     ensures no_key { IsErrOf result NoKey → D.owns device.old key.now ≡ false }
     ensures failed { IsErrOf result Failed → HasRisen (D.faults device.old) (D.faults device.new) }
@@ -49,7 +49,7 @@ pub fn sign_with_fresh_key<D: KeyDevice>(
     bytes: &[u8],
 ) -> Result<(KeyName, Signature), DeviceError>
     ensures no_key { IsErrOf result NoKey → ⊥ }
-    ensures recorded { IfOk result (λ made. GrewBy (entry made.0 bytes.now made.1) (D.signed device.old) (D.signed device.new)) }
+    ensures recorded { IfOk result (λ made. GrewBy (log_entry made.0 bytes.now made.1) (D.signed device.old) (D.signed device.new)) }
     ensures unused { D.exact device.old ≡ true → IfOk result (λ made. IfSome (D.signed device.old) (λ entries. (e : SignedEntry) → Contains entries e → e.key ≢ made.0)) }
     ensures failed { IsErrOf result Failed → HasRisen (D.faults device.old) (D.faults device.new) }
     ensures counted { D.faults device.old ≤ D.faults device.new }

@@ -10,7 +10,7 @@ use Rattle.base_types.proofs.Lists.{Contains-map, Contains-from_map}
 use Rattle.json_tree.specs.declared.tree.Tree.{Tree}
 use Rattle.json_tree.specs.Trees.{is_lawful}
 use Rattle.nquads.specs.Terms.{Statement, HasIriCharacters, IsStatement, is_forbidden, xsd_string, rdf_lang_string}
-use Rattle.nquads.specs.Spelling.{spelled}
+use Rattle.nquads.specs.Spelling.{text_quad}
 use Rattle.nquads.specs.declared.quads.TextQuad.{TextQuad}
 use Rattle.nquads.proofs.ReadingTerms.{spelled_one_reading}
 use Rattle.ld_rdf.specs.Plain.{is_iri_character, IsPlainIri}
@@ -61,14 +61,14 @@ module _ (r : Tree) (lawful : is_lawful r ≡ true) (ss : List Statement) (h : f
       subst IsStatement (sym m.is) (property_is_statement m.id m.mapping m.text plain.0 plain.1)
 
   -- what a set of spellings of the statements stands for
-  pub dataset_here : (quads : List TextQuad) → SameElements quads (map spelled ss) → AllDiffer quads → (q : List Statement) × IsFlatMeaning r q × (quads ≡ map spelled q)
+  pub dataset_here : (quads : List TextQuad) → SameElements quads (map text_quad ss) → AllDiffer quads → (q : List Statement) × IsFlatMeaning r q × (quads ≡ map text_quad q)
   dataset_here quads same differ =
-      let found = picked spelled ss quads (λ x c. (same x).0 c) in
+      let found = picked text_quad ss quads (λ x c. (same x).0 c) in
       let q = found.0 in
       let exact : (t : Statement) → Contains q t → Means r t = λ t c. means_from r lawful shape ss described_here t (found.2 t c) in
       let back : (t : Statement) → Means r t → Contains q t = λ t m.
-      let spelling_there : Contains (map spelled q) (spelled t) = subst (λ (l : List TextQuad). Contains l (spelled t)) found.1 ((same (spelled t)).1 (Contains-map spelled ss t (means_to r lawful shape ss described_here t m))) in
-      let other = Contains-from_map spelled q (spelled t) spelling_there in
+      let spelling_there : Contains (map text_quad q) (text_quad t) = subst (λ (l : List TextQuad). Contains l (text_quad t)) found.1 ((same (text_quad t)).1 (Contains-map text_quad ss t (means_to r lawful shape ss described_here t m))) in
+      let other = Contains-from_map text_quad q (text_quad t) spelling_there in
       let one : other.0 ≡ t = spelled_one_reading other.0 t (statement_here other.0 (exact other.0 other.1)) (statement_here t m) other.2 in
       subst (Contains q) one other.1 in
-      (q, record { dataset = AllDiffer-images spelled q (subst AllDiffer found.1 differ); exact = λ t. (exact t, back t) }, found.1)
+      (q, record { dataset = AllDiffer-images text_quad q (subst AllDiffer found.1 differ); exact = λ t. (exact t, back t) }, found.1)

@@ -3,7 +3,7 @@ use Rattle.std.proofs.Common.{◌≡◌, ℕ, true, List, [], ◌∷◌, Option,
 use Rattle.json_tree.specs.declared.tree.Tree.{Tree}
 use Rattle.json_tree.specs.declared.tree.Tree.TheVariants as v
 use Rattle.json_tree.specs.declared.tree.Member.{Member}
-use Rattle.json_tree.specs.Trees.{entry, is_lawful}
+use Rattle.json_tree.specs.Trees.{new_member, is_lawful}
 use Rattle.json_tree.specs.Places.{members_of}
 use Rattle.json_tree.proofs.Rising.{both_hold}
 use Rattle.json_tree.proofs.TreeLemmas.{is_lawful-Text, members_of-Object}
@@ -20,7 +20,7 @@ without_is_lawful besides t lawful = is_lawful-changed (without_key besides) t l
 
 pub taking_is_lawful : (name : List ℕ) (t : Tree) → is_lawful t ≡ true → is_lawful (taking name t) ≡ true
 taking_is_lawful name t lawful =
-    is_lawful-changed (put_member (entry at_context (v.Text name))) t lawful (λ ms l. put_lawful (entry at_context (v.Text name)) ms (is_lawful-Text name) l)
+    is_lawful-changed (put_member (new_member at_context (v.Text name))) t lawful (λ ms l. put_lawful (new_member at_context (v.Text name)) ms (is_lawful-Text name) l)
 
 pub request_is_lawful : (contexts t : Tree) → is_lawful contexts ≡ true → is_lawful t ≡ true → is_lawful (statements_request contexts t) ≡ true
 request_is_lawful contexts t one two = lawful_object _ (record { rising = refl; values = both_hold (is_lawful contexts) _ one (both_hold (is_lawful t) true two refl) })
@@ -56,9 +56,9 @@ described-without besides c ms =
     (λ i. option_and_then (λ id. option_and_then (λ chosen. provided (agrees c.0 chosen id c.1) (same id i)) (chosen i)) (id i))
     ∙ and_then-swap (λ id chosen. provided (agrees c.0 chosen id c.1) (statements_beside besides c.1 id ms)) (text_beside besides at_id ms) (text_beside besides at_context ms)
 
-described-taking : (besides name : List ℕ) (c : Supplied) (ms : List (Member Tree)) → described c (put_member (entry at_context (v.Text name)) (without_key besides ms)) ≡ described_as besides name c ms
+described-taking : (besides name : List ℕ) (c : Supplied) (ms : List (Member Tree)) → described c (put_member (new_member at_context (v.Text name)) (without_key besides ms)) ≡ described_as besides name c ms
 described-taking besides name c ms =
-    let id : text_at at_id (put_member (entry at_context (v.Text name)) (without_key besides ms)) ≡ text_beside besides at_id ms = id_under_put (v.Text name) (without_key besides ms) ∙ text_at-without besides at_id ms in
+    let id : text_at at_id (put_member (new_member at_context (v.Text name)) (without_key besides ms)) ≡ text_beside besides at_id ms = id_under_put (v.Text name) (without_key besides ms) ∙ text_at-without besides at_id ms in
     let chosen = text_at-put name (without_key besides ms) in
     let same = λ (id : List ℕ). statements_in-put c.1 id (v.Text name) (without_key besides ms) ∙ statements_in-without c.1 id besides ms in
     (λ i. option_and_then (λ id. option_and_then (λ chosen. provided (agrees c.0 chosen id c.1) (same id i)) (chosen i)) (id i))
@@ -73,7 +73,7 @@ described-whole c ms =
 made : (contexts t : Tree) → flat_statements (statements_request contexts t) ≡ option_and_then (λ c. option_and_then (described c) (members_of t)) (supplied_in contexts)
 made contexts t =
     ap (λ (o : Option (List (Member Tree))). option_and_then (λ (two : Tree × Tree). option_and_then (λ c. option_and_then (described c) (members_of two.1)) (supplied_in two.0)) (option_and_then two_in o))
-    (members_of-Object (entry (codes "contexts") contexts ∷ entry (codes "document") t ∷ []))
+    (members_of-Object (new_member (codes "contexts") contexts ∷ new_member (codes "document") t ∷ []))
 
 pub document_made : (besides : List ℕ) (contexts document : Tree) → flat_statements (statements_request contexts (without besides document)) ≡ reduced_statements besides contexts document
 document_made besides contexts document =
@@ -85,13 +85,13 @@ document_made besides contexts document =
 
 pub options_made : (besides name : List ℕ) (contexts options : Tree) → flat_statements (statements_request contexts (taking name (without besides options))) ≡ chosen_statements besides contexts name options
 options_made besides name contexts options =
-    let put : List (Member Tree) → List (Member Tree) = put_member (entry at_context (v.Text name)) in
+    let put : List (Member Tree) → List (Member Tree) = put_member (new_member at_context (v.Text name)) in
     let members : members_of (taking name (without besides options)) ≡ option_map put (option_map (without_key besides) (members_of options)) =
-    members_of-changed (put_member (entry at_context (v.Text name))) (without besides options) ∙ ap (option_map (put_member (entry at_context (v.Text name)))) (members_of-changed (without_key besides) options) in
+    members_of-changed (put_member (new_member at_context (v.Text name))) (without besides options) ∙ ap (option_map (put_member (new_member at_context (v.Text name)))) (members_of-changed (without_key besides) options) in
     made contexts (taking name (without besides options))
     ∙ (λ i. option_and_then (λ c. option_and_then (described c) (members i)) (supplied_in contexts))
-    ∙ (λ i. option_and_then (λ c. (and_then-map (described c) (put_member (entry at_context (v.Text name))) (option_map (without_key besides) (members_of options))
-    ∙ and_then-map (λ ms. described c (put_member (entry at_context (v.Text name)) ms)) (without_key besides) (members_of options)
+    ∙ (λ i. option_and_then (λ c. (and_then-map (described c) (put_member (new_member at_context (v.Text name))) (option_map (without_key besides) (members_of options))
+    ∙ and_then-map (λ ms. described c (put_member (new_member at_context (v.Text name)) ms)) (without_key besides) (members_of options)
     ∙ (λ j. option_and_then (λ ms. described-taking besides name c ms j) (members_of options))) i) (supplied_in contexts))
 
 pub whole_made : (r : Tree) → flat_statements r ≡ request_statements r

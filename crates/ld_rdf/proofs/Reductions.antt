@@ -11,7 +11,7 @@ use Rattle.json_tree.specs.declared.tree.Tree.{Tree, out-Tree}
 use Rattle.json_tree.specs.declared.tree.Tree.TheOpen.{Tree-F}
 use Rattle.json_tree.specs.declared.tree.Tree.TheVariants as v
 use Rattle.json_tree.specs.declared.tree.Member.{Member}
-use Rattle.json_tree.specs.Trees.{entry, is_before, is_lawful, AreLawful}
+use Rattle.json_tree.specs.Trees.{new_member, is_before, is_lawful, AreLawful}
 use Rattle.json_tree.specs.Places.{text_of, members_in, members_of, value_of}
 use Rattle.json_tree.proofs.Rising.{NamesRise, both_hold, each_next-tail, is_before-trans}
 use Rattle.json_tree.proofs.TreeLemmas.{is_lawful-Object, lawful_members, members_of-Object, members_of-Some, text_of-Text}
@@ -222,11 +222,11 @@ value_under_put key m (n ∷ ns) other =
       | inr s ↦ value-other key n (put_member m ns) s ∙ value_under_put key m ns other ∙ sym (value-other key n ns s)
     ])
 
-pub text_at-put : (name : List ℕ) (ms : List (Member Tree)) → text_at at_context (put_member (entry at_context (v.Text name)) ms) ≡ Some name
-text_at-put name ms = ap (option_and_then text_of) (value_put (entry at_context (v.Text name)) ms) ∙ text_of-Text name
+pub text_at-put : (name : List ℕ) (ms : List (Member Tree)) → text_at at_context (put_member (new_member at_context (v.Text name)) ms) ≡ Some name
+text_at-put name ms = ap (option_and_then text_of) (value_put (new_member at_context (v.Text name)) ms) ∙ text_of-Text name
 
-pub id_under_put : (t : Tree) (ms : List (Member Tree)) → text_at at_id (put_member (entry at_context t) ms) ≡ text_at at_id ms
-id_under_put t ms = ap (option_and_then text_of) (value_under_put at_id (entry at_context t) ms refl)
+pub id_under_put : (t : Tree) (ms : List (Member Tree)) → text_at at_id (put_member (new_member at_context t) ms) ≡ text_at at_id ms
+id_under_put t ms = ap (option_and_then text_of) (value_under_put at_id (new_member at_context t) ms refl)
 
 -- ---- statements
 
@@ -263,15 +263,15 @@ module _ (terms : List (Member Tree)) (id : List ℕ) where
   ]
 
   -- the context's name gives no statement
-  pub statements_in-put : (t : Tree) (ms : List (Member Tree)) → statements_in terms id (put_member (entry at_context t) ms) ≡ statements_in terms id ms
+  pub statements_in-put : (t : Tree) (ms : List (Member Tree)) → statements_in terms id (put_member (new_member at_context t) ms) ≡ statements_in terms id ms
   statements_in-put t [] = refl
   statements_in-put t (n ∷ ns) =
-      by_place (λ ks. statements_in terms id ks ≡ statements_in terms id (n ∷ ns)) (entry at_context t) n ns
+      by_place (λ ks. statements_in terms id ks ≡ statements_in terms id (n ∷ ns)) (new_member at_context t) n ns
       (λ h. refl)
       (λ e. sym (entry_skipped n ns (ap is_entry (sym (same_text at_context n.key e)))))
       (λ h e. elim (cases_Bool (is_entry n.key)) [
-        | inl s ↦ entry_skipped n (put_member (entry at_context t) ns) s ∙ statements_in-put t ns ∙ sym (entry_skipped n ns s)
-        | inr s ↦ property_first n (put_member (entry at_context t) ns) s ∙ ap (one_before n) (statements_in-put t ns) ∙ sym (property_first n ns s)
+        | inl s ↦ entry_skipped n (put_member (new_member at_context t) ns) s ∙ statements_in-put t ns ∙ sym (entry_skipped n ns s)
+        | inr s ↦ property_first n (put_member (new_member at_context t) ns) s ∙ ap (one_before n) (statements_in-put t ns) ∙ sym (property_first n ns s)
       ])
 
   entry_alone : (key : List ℕ) → is_left_out at_context key ≡ is_entry key

@@ -5,7 +5,7 @@ use Rattle.json_tree.specs.declared.tree.Tree.{Tree, out-Tree}
 use Rattle.json_tree.specs.declared.tree.Tree.TheOpen.{Tree-F}
 use Rattle.json_tree.specs.declared.tree.Tree.TheVariants as v
 use Rattle.json_tree.specs.declared.tree.Member.{Member}
-use Rattle.json_tree.specs.Trees.{entry, is_before}
+use Rattle.json_tree.specs.Trees.{new_member, is_before}
 use Rattle.ld_rdf.specs.Flat.{at_context}
 
 -- an object with its members changed, and any other tree as it is
@@ -29,11 +29,11 @@ put_member m [] = m ∷ []
 put_member m (n ∷ ns) = if is_before m.key n.key then m ∷ n ∷ ns else (if bytes_eq m.key n.key then m ∷ ns else n ∷ put_member m ns)
 
 abbrev pub with_member : List ℕ → Tree → Tree → Tree
-with_member key value t = changed (put_member (entry key value)) t
+with_member key value t = changed (put_member (new_member key value)) t
 
 -- the request for the statements of a document under these contexts
 abbrev pub statements_request : Tree → Tree → Tree
-statements_request contexts document = v.Object (entry (codes "contexts") contexts ∷ entry (codes "document") document ∷ [])
+statements_request contexts document = v.Object (new_member (codes "contexts") contexts ∷ new_member (codes "document") document ∷ [])
 
 -- an object as a document that takes the context of that name
 abbrev pub taking : List ℕ → Tree → Tree

@@ -1,7 +1,7 @@
 ghost use Rattle.std.specs.Prelude.{◌≡◌, true, List, map, IfOk, IsErrOf};
 ghost use Rattle.json_tree.specs.Trees.{is_lawful};
 ghost use Rattle.nquads.specs.Terms.{Statement, IsStatement};
-ghost use Rattle.nquads.specs.Spelling.{spelled};
+ghost use Rattle.nquads.specs.Spelling.{text_quad};
 ghost use Rattle.ld_rdf.specs.Flat.{IsFlat, IsFlatMeaning, Means};
 ghost use Rattle.ld_rdf.specs.Reduced.{statements_request, taking, without};
 
@@ -26,7 +26,7 @@ pub fn flat_document(
     requires contexts { is_lawful contexts.now ≡ true }
     requires document { is_lawful document.now ≡ true }
     ensures ok { IfOk result (λ quads. IsFlat (statements_request contexts.now (without besides.now document.now)) × ((q : List Statement)
-        × IsFlatMeaning (statements_request contexts.now (without besides.now document.now)) q × (quads ≡ map spelled q))) }
+        × IsFlatMeaning (statements_request contexts.now (without besides.now document.now)) q × (quads ≡ map text_quad q))) }
     ensures statements { IfOk result (λ _. (s : Statement) → Means (statements_request contexts.now (without besides.now document.now)) s → IsStatement s) }
     ensures not_built { IsErrOf result FlatFault.NotBuilt → IsFlat (statements_request contexts.now (without besides.now document.now)) → ⊥ }
 {
@@ -52,7 +52,7 @@ pub fn flat_options(
     requires contexts { is_lawful contexts.now ≡ true }
     requires options { is_lawful options.now ≡ true }
     ensures ok { IfOk result (λ quads. IsFlat (statements_request contexts.now (taking context.now (without besides.now options.now))) × ((q : List Statement)
-        × IsFlatMeaning (statements_request contexts.now (taking context.now (without besides.now options.now))) q × (quads ≡ map spelled q))) }
+        × IsFlatMeaning (statements_request contexts.now (taking context.now (without besides.now options.now))) q × (quads ≡ map text_quad q))) }
     ensures statements { IfOk result (λ _. (s : Statement) → Means (statements_request contexts.now (taking context.now (without besides.now options.now))) s → IsStatement s) }
     ensures not_built { IsErrOf result FlatFault.NotBuilt → IsFlat (statements_request contexts.now (taking context.now (without besides.now options.now))) → ⊥ }
 {

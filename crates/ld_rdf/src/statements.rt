@@ -1,7 +1,7 @@
 ghost use Rattle.std.specs.Prelude.{◌≡◌, true, List, map, option_map, IfOk, IsErrOf};
 ghost use Rattle.json_tree.specs.Trees.{is_lawful, AreLawful};
 ghost use Rattle.nquads.specs.Terms.{Statement, IsStatement};
-ghost use Rattle.nquads.specs.Spelling.{spelled};
+ghost use Rattle.nquads.specs.Spelling.{text_quad};
 ghost use Rattle.ld_rdf.specs.Flat.{IsFlat, IsFlatMeaning, Means, property_statement};
 ghost use Rattle.ld_rdf.specs.Parts.{property_of, is_left_out, agrees, statements_beside, described_as, chosen_statements, reduced_statements, whole_statements, request_statements};
 ghost use Rattle.ld_rdf.specs.Answers.{Answers, AnswersItems};
@@ -26,7 +26,7 @@ fn property(
 ) -> Result<TextQuad, FlatFault>
     requires { AreLawful terms.now }
     ensures { Answers
-        (option_map (λ p. spelled (property_statement id.now p.0 p.1)) (property_of terms.now member.now))
+        (option_map (λ p. text_quad (property_statement id.now p.0 p.1)) (property_of terms.now member.now))
         result }
 {
     let Some(mapping) = text_at(member.key.as_str(), terms) else {
@@ -64,7 +64,7 @@ fn properties(
 ) -> Result<Vec<TextQuad>, FlatFault>
     requires { AreLawful terms.now }
     ensures { AnswersItems
-        (option_map (map spelled) (statements_beside besides.now terms.now id.now members.now)) result }
+        (option_map (map text_quad) (statements_beside besides.now terms.now id.now members.now)) result }
 {
     let mut quads = Vec::new(alloc);
     for member in members {
@@ -94,7 +94,7 @@ fn described_as(
 ) -> Result<Vec<TextQuad>, FlatFault>
     requires terms { AreLawful terms.now }
     requires members { AreLawful members.now }
-    ensures { AnswersItems (option_map (map spelled)
+    ensures { AnswersItems (option_map (map text_quad)
         (described_as besides.now chosen.now (name.now, terms.now) members.now)) result }
 {
     let Some(id) = text_beside(besides, "@id", members) else {
@@ -116,7 +116,7 @@ pub fn chosen_statements(
 ) -> Result<Vec<TextQuad>, FlatFault>
     requires contexts { is_lawful contexts.now ≡ true }
     requires tree { is_lawful tree.now ≡ true }
-    ensures { AnswersItems (option_map (map spelled)
+    ensures { AnswersItems (option_map (map text_quad)
         (chosen_statements besides.now contexts.now chosen.now tree.now)) result }
 {
     let Some((name, terms)) = supplied(contexts) else {
@@ -137,7 +137,7 @@ pub fn reduced_statements(
 ) -> Result<Vec<TextQuad>, FlatFault>
     requires contexts { is_lawful contexts.now ≡ true }
     requires document { is_lawful document.now ≡ true }
-    ensures { AnswersItems (option_map (map spelled)
+    ensures { AnswersItems (option_map (map text_quad)
         (reduced_statements besides.now contexts.now document.now)) result }
 {
     let Some(members) = document.as_object() else {
@@ -157,7 +157,7 @@ fn whole_statements(
 ) -> Result<Vec<TextQuad>, FlatFault>
     requires contexts { is_lawful contexts.now ≡ true }
     requires document { is_lawful document.now ≡ true }
-    ensures { AnswersItems (option_map (map spelled)
+    ensures { AnswersItems (option_map (map text_quad)
         (whole_statements contexts.now document.now)) result }
 {
     let Some(members) = document.as_object() else {
@@ -173,7 +173,7 @@ fn whole_statements(
 /// The statements of a flat request.
 fn request_statements(alloc: Global, request: &Tree) -> Result<Vec<TextQuad>, FlatFault>
     requires { is_lawful request.now ≡ true }
-    ensures { AnswersItems (option_map (map spelled) (request_statements request.now)) result }
+    ensures { AnswersItems (option_map (map text_quad) (request_statements request.now)) result }
 {
     let Some((contexts, document)) = two_members(request) else {
         return Err(FlatFault::NotBuilt);
@@ -191,7 +191,7 @@ fn request_statements(alloc: Global, request: &Tree) -> Result<Vec<TextQuad>, Fl
 pub fn flat(alloc: Global, request: &Tree) -> Result<TextQuads, FlatFault>
     requires { is_lawful request.now ≡ true }
     ensures ok { IfOk result (λ quads. IsFlat request.now × ((q : List Statement)
-        × IsFlatMeaning request.now q × (quads ≡ map spelled q))) }
+        × IsFlatMeaning request.now q × (quads ≡ map text_quad q))) }
     ensures statements { IfOk result (λ _. (s : Statement) → Means request.now s → IsStatement s) }
     ensures not_built { IsErrOf result FlatFault.NotBuilt → IsFlat request.now → ⊥ }
 {

@@ -9,12 +9,12 @@ use Rattle.std.specs.Cmp.Lexicographic.{slice_cmp}
 use Rattle.std.specs.Ordering.{nat_cmp}
 use Rattle.std.proofs.lemmas.List.Filters.{dedup_is}
 use Rattle.std.proofs.lemmas.List.{take_more}
-use Rattle.base_types.specs.Order.{rising}
+use Rattle.base_types.specs.Order.{sorted_set}
 use Rattle.base_types.specs.Sets.{SameElements}
 use Rattle.base_types.proofs.Lists.{SameElements-map}
 use Rattle.base_types.proofs.Rising.{rising-dedup, rising-free}
 use Rattle.nquads.specs.Terms.{Term, iri, literal, blank, Statement}
-use Rattle.nquads.specs.Spelling.{spelling, spelled}
+use Rattle.nquads.specs.Spelling.{spelling, text_quad}
 use Rattle.nquads.specs.Lines.{term_text, graph_text, line, canonical_lines}
 use Rattle.nquads.specs.Texts.{label_in, part_text, graph_part_text, text_line}
 use Rattle.nquads.specs.declared.labels.TextLabel.{TextLabel}
@@ -30,22 +30,22 @@ module _ (labels : List TextLabel) where
   graph_part_text-spelling None = refl
   graph_part_text-spelling (Some g) = ap (λ t. t ++ 32 ∷ []) (part_text-spelling g)
 
-  pub text_line-spelled : (s : Statement) → text_line labels (spelled s) ≡ line (label_in labels) s
+  pub text_line-spelled : (s : Statement) → text_line labels (text_quad s) ≡ line (label_in labels) s
   text_line-spelled s = rw (part_text-spelling s.subject, part_text-spelling s.object, graph_part_text-spelling s.graph) refl
 
-  text_lines-spelled : (q : List Statement) → map (text_line labels) (map spelled q) ≡ map (line (label_in labels)) q
+  text_lines-spelled : (q : List Statement) → map (text_line labels) (map text_quad q) ≡ map (line (label_in labels)) q
   text_lines-spelled [] = refl
   text_lines-spelled (s ∷ ss) = let first = text_line-spelled s in let rest = text_lines-spelled ss in λ i. first i ∷ rest i
 
-  pub rising-text_lines : (quads : List TextQuad) (q : List Statement) → SameElements quads (map spelled q) → rising (map (text_line labels) quads) ≡ canonical_lines (label_in labels) q
+  pub rising-text_lines : (quads : List TextQuad) (q : List Statement) → SameElements quads (map text_quad q) → sorted_set (map (text_line labels) quads) ≡ canonical_lines (label_in labels) q
   rising-text_lines quads q same =
-      rising-free (map (text_line labels) quads) (map (text_line labels) (map spelled q)) (SameElements-map (text_line labels) quads (map spelled q) same)
-      ∙ ap rising (text_lines-spelled q)
+      rising-free (map (text_line labels) quads) (map (text_line labels) (map text_quad q)) (SameElements-map (text_line labels) quads (map text_quad q) same)
+      ∙ ap sorted_set (text_lines-spelled q)
 
   -- what `text_of` joins
-  pub kept-canonical : (quads : List TextQuad) (lines up kept : List (List ℕ)) (q : List Statement) → lines ≡ map (text_line labels) quads → IsPermutation lines up → IsSorted (slice_cmp nat_cmp) up → IsFiltered (DiffersFromLast bytes_eq) [] up kept → SameElements quads (map spelled q) → kept ≡ canonical_lines (label_in labels) q
+  pub kept-canonical : (quads : List TextQuad) (lines up kept : List (List ℕ)) (q : List Statement) → lines ≡ map (text_line labels) quads → IsPermutation lines up → IsSorted (slice_cmp nat_cmp) up → IsFiltered (DiffersFromLast bytes_eq) [] up kept → SameElements quads (map text_quad q) → kept ≡ canonical_lines (label_in labels) q
   kept-canonical quads lines up kept q made moved sorted filtered same =
-      dedup_is bytes_eq up kept filtered ∙ rising-dedup lines up moved sorted ∙ ap rising made ∙ rising-text_lines quads q same
+      dedup_is bytes_eq up kept filtered ∙ rising-dedup lines up moved sorted ∙ ap sorted_set made ∙ rising-text_lines quads q same
 
 pub concat-push : (lines : List (List ℕ)) (l : List ℕ) → concat (lines ++ l ∷ []) ≡ concat lines ++ l
 concat-push [] l = append-nil l

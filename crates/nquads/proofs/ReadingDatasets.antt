@@ -4,7 +4,7 @@ use Rattle.std.proofs.lemmas.List.Elements.{All-contains, Contains-append_left, 
 use Rattle.base_types.specs.Sets.{SameElements}
 use Rattle.nquads.specs.Terms.{Blank, Statement, IsStatement}
 use Rattle.nquads.specs.Renaming.{blanks_of, StandsIn}
-use Rattle.nquads.specs.Lines.{line, labelled, HasLabels, IsLine, LabelsDiffer, canonical_lines, canonical_text}
+use Rattle.nquads.specs.Lines.{line, with_labels, HasLabels, IsLine, LabelsDiffer, canonical_lines, canonical_text}
 use Rattle.base_types.proofs.Lists.{Contains-map, Contains-from_map, Contains-cons_cases, Contains-nil}
 use Rattle.nquads.proofs.ReadingElements.{All-from_contains, from_rising, to_rising}
 use Rattle.nquads.proofs.ReadingLines.{line_one_reading, line_names_statement, IsLine-line, one_split}
@@ -25,14 +25,14 @@ pub text_determines_lines : (f g : Blank → List ℕ) (q r : List Statement) �
 text_determines_lines f g q r i j p n e =
     one_split (canonical_lines f q) (canonical_lines g r) (canonical_lines_are_lines f q i p) (canonical_lines_are_lines g r j n) e
 
-found_again : (f g : Blank → List ℕ) (q r : List Statement) → All IsStatement q → All IsStatement r → All (HasLabels f) q → All (HasLabels g) r → canonical_lines f q ≡ canonical_lines g r → (t : Statement) → Contains (map (labelled f) q) t → Contains (map (labelled g) r) t
+found_again : (f g : Blank → List ℕ) (q r : List Statement) → All IsStatement q → All IsStatement r → All (HasLabels f) q → All (HasLabels g) r → canonical_lines f q ≡ canonical_lines g r → (t : Statement) → Contains (map (with_labels f) q) t → Contains (map (with_labels g) r) t
 found_again f g q r i j p n e t m =
-    let a = Contains-from_map (labelled f) q t m in
+    let a = Contains-from_map (with_labels f) q t m in
     let b = from_canonical_lines g r (line f a.0) (subst (λ (ls : List (List ℕ)). Contains ls (line f a.0)) e (to_canonical_lines f q a.0 a.1)) in
-    let same : labelled g b.0 ≡ t = line_one_reading g f b.0 a.0 (All-contains IsStatement r b.0 j b.1) (All-contains IsStatement q a.0 i a.1) (All-contains (HasLabels g) r b.0 n b.1) (All-contains (HasLabels f) q a.0 p a.1) b.2 ∙ a.2 in
-    subst (λ (z : Statement). Contains (map (labelled g) r) z) same (Contains-map (labelled g) r b.0 b.1)
+    let same : with_labels g b.0 ≡ t = line_one_reading g f b.0 a.0 (All-contains IsStatement r b.0 j b.1) (All-contains IsStatement q a.0 i a.1) (All-contains (HasLabels g) r b.0 n b.1) (All-contains (HasLabels f) q a.0 p a.1) b.2 ∙ a.2 in
+    subst (λ (z : Statement). Contains (map (with_labels g) r) z) same (Contains-map (with_labels g) r b.0 b.1)
 
-pub text_determines_statements : (f g : Blank → List ℕ) (q r : List Statement) → All IsStatement q → All IsStatement r → All (HasLabels f) q → All (HasLabels g) r → canonical_text f q ≡ canonical_text g r → SameElements (map (labelled f) q) (map (labelled g) r)
+pub text_determines_statements : (f g : Blank → List ℕ) (q r : List Statement) → All IsStatement q → All IsStatement r → All (HasLabels f) q → All (HasLabels g) r → canonical_text f q ≡ canonical_text g r → SameElements (map (with_labels f) q) (map (with_labels g) r)
 text_determines_statements f g q r i j p n e =
     let lines : canonical_lines f q ≡ canonical_lines g r = text_determines_lines f g q r i j p n e in
     λ t. (found_again f g q r i j p n lines t, found_again g f r q j i n p (sym lines) t)

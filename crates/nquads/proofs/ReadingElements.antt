@@ -4,7 +4,7 @@ use Rattle.std.proofs.lemmas.List.{get_or_default}
 use Rattle.std.proofs.lemmas.List.Elements.{Contains-get_or}
 use Rattle.base_types.specs.Sets.{AllDiffer}
 use Rattle.base_types.proofs.Lists.{Contains-here, Contains-there, Contains-from_map}
-use Rattle.base_types.specs.Order.{rising}
+use Rattle.base_types.specs.Order.{sorted_set}
 use Rattle.base_types.proofs.Rising.{rising-same}
 
 -- ---- membership
@@ -43,8 +43,8 @@ AllDiffer-map f (x ∷ xs) o a =
 
 -- ---- texts in order hold what was put in order
 
-pub from_rising : (ts : List (List ℕ)) (x : List ℕ) → Contains (rising ts) x → Contains ts x
+pub from_rising : (ts : List (List ℕ)) (x : List ℕ) → Contains (sorted_set ts) x → Contains ts x
 from_rising ts x = (rising-same ts x).0
 
-pub to_rising : (ts : List (List ℕ)) (x : List ℕ) → Contains ts x → Contains (rising ts) x
+pub to_rising : (ts : List (List ℕ)) (x : List ℕ) → Contains ts x → Contains (sorted_set ts) x
 to_rising ts x = (rising-same ts x).1

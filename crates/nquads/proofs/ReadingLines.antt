@@ -5,7 +5,7 @@ use Rattle.std.specs.List.{flat_map, concat}
 use Rattle.nquads.specs.Terms.{Blank, Term, iri, literal, blank, Statement, HasIriCharacters, IsLabel, IsTerm, IsResource, IsStatement, xsd_string}
 use Rattle.nquads.specs.Renaming.{blanks_of_term, blanks_of_graph, blanks_of, rename_term, rename}
 use Rattle.nquads.specs.Spelling.{escape, iri_text, literal_end}
-use Rattle.nquads.specs.Lines.{term_text, graph_text, line, labelled, HasLabels, IsLine}
+use Rattle.nquads.specs.Lines.{term_text, graph_text, line, with_labels, HasLabels, IsLine}
 use Rattle.nquads.proofs.ReadingTexts.{apart, Absent, Absent-append, Absent-contains, Absent-from, cut_once}
 use Rattle.nquads.proofs.ReadingEscapes.{quoted_absent}
 use Rattle.nquads.proofs.ReadingTerms.{named, iri_then, term_then, IsTerm-from_resource, same_statement, iri_absent, label_absent, language_absent}
@@ -38,7 +38,7 @@ in_parts : (f : Blank → List ℕ) (s : Statement) → line f s ≡ term_text f
 unfolding after_object after_predicate after_subject
 in_parts f s = refl
 
-pub line_one_reading : (f g : Blank → List ℕ) (s t : Statement) → IsStatement s → IsStatement t → HasLabels f s → HasLabels g t → line f s ≡ line g t → labelled f s ≡ labelled g t
+pub line_one_reading : (f g : Blank → List ℕ) (s t : Statement) → IsStatement s → IsStatement t → HasLabels f s → HasLabels g t → line f s ≡ line g t → with_labels f s ≡ with_labels g t
 unfolding after_object after_predicate after_subject
 line_one_reading f g s t i j p q e =
     let whole : term_text f s.subject ++ 32 ∷ after_subject f s ≡ term_text g t.subject ++ 32 ∷ after_subject g t = sym (in_parts f s) ∙ e ∙ in_parts g t in
@@ -56,7 +56,7 @@ line_one_reading f g s t i j p q e =
     graph_then f g s.graph t.graph (10 ∷ []) (10 ∷ []) i.graph j.graph
     (λ b m. p b (Contains-append_right (blanks_of_term s.subject) (blanks_of_term s.object ++ blanks_of_graph s.graph) b (Contains-append_right (blanks_of_term s.object) (blanks_of_graph s.graph) b m)))
     (λ b m. q b (Contains-append_right (blanks_of_term t.subject) (blanks_of_term t.object ++ blanks_of_graph t.graph) b (Contains-append_right (blanks_of_term t.object) (blanks_of_graph t.graph) b m))) objects.1 in
-    same_statement (labelled f s) (labelled g t) subjects.0 predicates.0 objects.0 graphs
+    same_statement (with_labels f s) (with_labels g t) subjects.0 predicates.0 objects.0 graphs
 
 -- ---- where no two blank nodes are sent to one, a renamed statement determines the statement
 

@@ -3,7 +3,7 @@ use Rattle.std.proofs.Common.{◌≡◌, ℕ, List, [], ◌∷◌, ◌++◌, map
 use Rattle.base_types.specs.Sets.{SameElements}
 use Rattle.nquads.specs.Terms.{Blank, Term, iri, literal, blank, Statement, IsStatement}
 use Rattle.nquads.specs.Renaming.{rename_term, rename, applied, Same}
-use Rattle.nquads.specs.Lines.{labelled, HasLabels, canonical_text, LabelsDiffer}
+use Rattle.nquads.specs.Lines.{with_labels, HasLabels, canonical_text, LabelsDiffer}
 use Rattle.base_types.proofs.Lists.{Contains-map, Contains-from_map}
 use Rattle.nquads.proofs.ReadingTerms.{named}
 use Rattle.nquads.proofs.ReadingDatasets.{text_determines_statements}
@@ -16,18 +16,18 @@ use Rattle.nquads.proofs.ReadingRenamings.{Same-from_map, Same-from_elements, Sa
 
 -- ---- equal canonical texts
 
-Same-labelled : (f : Blank → List ℕ) (q : List Statement) → LabelsDiffer f q → Same q (map (labelled f) q)
+Same-labelled : (f : Blank → List ℕ) (q : List Statement) → LabelsDiffer f q → Same q (map (with_labels f) q)
 Same-labelled f q d =
-    Same-from_map (named f) q (map (labelled f) q)
+    Same-from_map (named f) q (map (with_labels f) q)
     (λ a b s t k. d a b (to_blanks_in q s.statement a s.within s.blank_node) (to_blanks_in q t.statement b t.within t.blank_node) (ap (λ (z : Blank). z.name) k))
     (λ t. ((λ m. m), (λ m. m)))
 
 pub text_determines_dataset : (f g : Blank → List ℕ) (q r : List Statement) → All IsStatement q → All IsStatement r → All (HasLabels f) q → All (HasLabels g) r → LabelsDiffer f q → LabelsDiffer g r → canonical_text f q ≡ canonical_text g r → Same q r
 text_determines_dataset f g q r i j p n c d e =
-    Same-trans q (map (labelled f) q) r (Same-labelled f q c)
-    (Same-trans (map (labelled f) q) (map (labelled g) r) r
-    (Same-from_elements (map (labelled f) q) (map (labelled g) r) (text_determines_statements f g q r i j p n e))
-    (Same-sym r (map (labelled g) r) (Same-labelled g r d)))
+    Same-trans q (map (with_labels f) q) r (Same-labelled f q c)
+    (Same-trans (map (with_labels f) q) (map (with_labels g) r) r
+    (Same-from_elements (map (with_labels f) q) (map (with_labels g) r) (text_determines_statements f g q r i j p n e))
+    (Same-sym r (map (with_labels g) r) (Same-labelled g r d)))
 
 -- ---- what a renaming does to lines
 
@@ -72,7 +72,7 @@ pub text_from_Same : (f : Blank → List ℕ) (q r : List Statement) (e : Same q
 text_from_Same f q r e = sym (text_carried f (applied e.pairs) q r e.renamed)
 
 -- a canonical text depends on the labelled statements alone
-pub text_from_statements : (f g : Blank → List ℕ) (q r : List Statement) → SameElements (map (labelled f) q) (map (labelled g) r) → canonical_text f q ≡ canonical_text g r
+pub text_from_statements : (f g : Blank → List ℕ) (q r : List Statement) → SameElements (map (with_labels f) q) (map (with_labels g) r) → canonical_text f q ≡ canonical_text g r
 text_from_statements f g q r e =
-    text_carried (λ b. b.name) (named f) q (map (labelled g) r) e
-    ∙ sym (text_carried (λ b. b.name) (named g) r (map (labelled g) r) (λ t. ((λ m. m), (λ m. m))))
+    text_carried (λ b. b.name) (named f) q (map (with_labels g) r) e
+    ∙ sym (text_carried (λ b. b.name) (named g) r (map (with_labels g) r) (λ t. ((λ m. m), (λ m. m))))

@@ -6,7 +6,7 @@ use Rattle.std.proofs.lemmas.List.Elements.{All-head, All-tail}
 use Rattle.std.specs.List.{flat_map}
 use Rattle.nquads.specs.Terms.{BlankKind, by_label, by_node, by_graph, by_cell, Blank, Term, iri, literal, blank, Statement, HasIriCharacters, IsLanguage, IsLabel, IsTerm, IsResource, IsStatement, is_forbidden, is_letter, is_digit, is_label_character, xsd_string}
 use Rattle.nquads.specs.Renaming.{blanks_of_term, rename_term}
-use Rattle.nquads.specs.Spelling.{escape, iri_text, literal_end, literal_text, kind_letter, blank_text, spelling, spelled}
+use Rattle.nquads.specs.Spelling.{escape, iri_text, literal_end, literal_text, kind_letter, blank_text, spelling, text_quad}
 use Rattle.nquads.specs.Lines.{term_text}
 use Rattle.nquads.specs.declared.quads.TextQuad.{TextQuad}
 use Rattle.nquads.proofs.ReadingTexts.{apart, Absent, Absent-append, cut_once, Absent-tested}
@@ -163,7 +163,7 @@ graph_spelling (Some a) (Some b) i j e =
     let same : spelling a ≡ spelling b = cc in
     ap (λ (t : Term). Some t) (spelling_one_reading a b (IsTerm-from_resource a i) (IsTerm-from_resource b j) same)
 
-pub spelled_one_reading : (s t : Statement) → IsStatement s → IsStatement t → spelled s ≡ spelled t → s ≡ t
+pub spelled_one_reading : (s t : Statement) → IsStatement s → IsStatement t → text_quad s ≡ text_quad t → s ≡ t
 spelled_one_reading s t i j e =
     same_statement s t
     (spelling_one_reading s.subject t.subject (IsTerm-from_resource s.subject i.subject) (IsTerm-from_resource t.subject j.subject) (ap (λ (q : TextQuad). q.subject) e))

@@ -1,7 +1,7 @@
 -- Canonical lines and the text that they make. RDF Canonicalization, the canonical form of N-Quads.
 use Rattle.std.specs.Prelude.{◌≡◌, ℕ, List, [], ◌∷◌, ◌++◌, map, Contains, Option, Some, None}
 use Rattle.std.specs.List.{concat}
-use Rattle.base_types.specs.Order.{rising}
+use Rattle.base_types.specs.Order.{sorted_set}
 use Rattle.nquads.specs.Terms.{Blank, by_label, Term, iri, literal, blank, Statement, IsLabel}
 use Rattle.nquads.specs.Renaming.{rename, blanks_of, StandsIn}
 use Rattle.nquads.specs.Spelling.{iri_text, literal_text}
@@ -23,7 +23,7 @@ line label s = term_text label s.subject ++ (32 ∷ (iri_text s.predicate ++ (32
 
 -- the lines of a dataset in code-point order, each once
 abbrev pub canonical_lines : (Blank → List ℕ) → List Statement → List (List ℕ)
-canonical_lines label q = rising (map (line label) q)
+canonical_lines label q = sorted_set (map (line label) q)
 
 -- The canonical text of a dataset under labels for its blank nodes.
 abbrev pub canonical_text : (Blank → List ℕ) → List Statement → List ℕ
@@ -36,8 +36,8 @@ pub record IsLine (text : List ℕ) : Type 0 where
   pub whole : Contains front 10 → ⊥
 
 -- the statement with each blank node named by its label
-abbrev pub labelled : (Blank → List ℕ) → Statement → Statement
-labelled label s = rename (λ b. record { kind = by_label; name = label b }) s
+abbrev pub with_labels : (Blank → List ℕ) → Statement → Statement
+with_labels label s = rename (λ b. record { kind = by_label; name = label b }) s
 
 -- each blank node of the statement has a label in its grammar
 abbrev pub HasLabels : (Blank → List ℕ) → Statement → Type 0

@@ -57,5 +57,5 @@ spelling (literal text datatype language) = literal_text text datatype language
 spelling (blank b) = blank_text b
 
 -- a statement's four spellings
-abbrev pub spelled : Statement → TextQuad
-spelled s = record { subject = spelling s.subject; predicate = iri_text s.predicate; object = spelling s.object; graph = option_map spelling s.graph }
+abbrev pub text_quad : Statement → TextQuad
+text_quad s = record { subject = spelling s.subject; predicate = iri_text s.predicate; object = spelling s.object; graph = option_map spelling s.graph }

@@ -7,11 +7,11 @@ ghost use Rattle.nquads.specs.Lines.{
   LabelsDiffer,
   canonical_lines,
   canonical_text,
-  labelled,
+  with_labels,
   line,
 };
 ghost use Rattle.nquads.specs.Renaming.{IsOneToOne, Same, applied, rename};
-ghost use Rattle.nquads.specs.Spelling.{escape, spelled, spelling};
+ghost use Rattle.nquads.specs.Spelling.{escape, text_quad, spelling};
 ghost use Rattle.nquads.specs.Terms.{Blank, by_node, IsDataset, IsStatement, IsTerm, Statement, Term, iri, literal, blank, rdf_lang_string, xsd_string};
 ghost use Rattle.std.specs.List.{concat, flat_map};
 ghost use Rattle.std.specs.Prelude.{All, Contains, List, map, [], ◌∷◌, ◌++◌, ◌≡◌, ℕ, codes, Some, None};
@@ -23,14 +23,14 @@ pub fn spelling_has_one_reading()
 
 /// Four texts are the spellings of one statement at most.
 pub fn spelled_statement_has_one_reading()
-    ensures { (s t : Statement) → IsStatement s → IsStatement t → spelled s ≡ spelled t → s ≡ t }
+    ensures { (s t : Statement) → IsStatement s → IsStatement t → text_quad s ≡ text_quad t → s ≡ t }
 {}
 
 /// Two statements with one line are one but for the names of their blank nodes, and these have the
 /// same labels at the same places.
 pub fn line_has_one_reading()
     ensures { (f g : Blank → List ℕ) (s t : Statement) → IsStatement s → IsStatement t → HasLabels f s
-        → HasLabels g t → line f s ≡ line g t → labelled f s ≡ labelled g t }
+        → HasLabels g t → line f s ≡ line g t → with_labels f s ≡ with_labels g t }
 {}
 
 /// In a dataset whose labels differ, no two statements have one line.
@@ -58,9 +58,9 @@ pub fn text_has_one_reading()
         → canonical_lines f q ≡ canonical_lines g r }
     ensures statements { (f g : Blank → List ℕ) (q r : List Statement) → All IsStatement q → All IsStatement r
         → All (HasLabels f) q → All (HasLabels g) r → canonical_text f q ≡ canonical_text g r
-        → SameElements (map (labelled f) q) (map (labelled g) r) }
+        → SameElements (map (with_labels f) q) (map (with_labels g) r) }
     ensures text { (f g : Blank → List ℕ) (q r : List Statement)
-        → SameElements (map (labelled f) q) (map (labelled g) r)
+        → SameElements (map (with_labels f) q) (map (with_labels g) r)
         → canonical_text f q ≡ canonical_text g r }
 {}
 

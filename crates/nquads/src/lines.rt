@@ -2,7 +2,7 @@ ghost use Rattle.std.specs.Prelude.{◌≡◌, List, ◌++◌, map, All, IfSome,
 ghost use Rattle.std.specs.List.{concat};
 ghost use Rattle.base_types.specs.Sets.{SameElements};
 ghost use Rattle.nquads.specs.Terms.{Statement};
-ghost use Rattle.nquads.specs.Spelling.{spelled};
+ghost use Rattle.nquads.specs.Spelling.{text_quad};
 ghost use Rattle.nquads.specs.Lines.{line, canonical_text};
 ghost use Rattle.nquads.specs.Texts.{label_in, IsNamed, Names, graph_part_text, part_text, text_line};
 
@@ -20,7 +20,7 @@ use std::alloc::Global;
 /// `Memory`: there is no memory for the line.
 pub fn line_of(alloc: Global, quad: &TextQuad, labels: &TextLabels) -> Result<Text, Memory>
     requires { Names labels.now quad.now }
-    ensures { (s : Statement) → quad.now ≡ spelled s → IfOk result (λ t. t ≡ line (label_in labels.now) s) }
+    ensures { (s : Statement) → quad.now ≡ text_quad s → IfOk result (λ t. t ≡ line (label_in labels.now) s) }
 {
     let line = written(alloc, quad, labels)?;
     Ok(line)
@@ -34,7 +34,7 @@ pub fn line_of(alloc: Global, quad: &TextQuad, labels: &TextLabels) -> Result<Te
 /// `Memory`: there is no memory for the lines or the text.
 pub fn text_of(alloc: Global, quads: &TextQuads, labels: &TextLabels) -> Result<Vec<u8>, Memory>
     requires { All (Names labels.now) quads.now }
-    ensures { (q : List Statement) → SameElements quads.now (map spelled q)
+    ensures { (q : List Statement) → SameElements quads.now (map text_quad q)
         → IfOk result (λ bytes. bytes.items ≡ canonical_text (label_in labels.now) q) }
 {
     let mut lines = lines_of(alloc, quads.as_slice(), labels)?;

@@ -12,10 +12,10 @@ use Rattle.base64.proofs.RoundTrip.{length-encode_symbols}
 use Rattle.base64.proofs.EngineFacts.{IsAscii-encode_of}
 use Rattle.cbor_core.specs.declared.item.Item.TheVariants as v
 use Rattle.cbor_core.specs.Grammar.{head_of}
-use Rattle.cbor_core.specs.Writing.{spelling}
+use Rattle.cbor_core.specs.Writing.{encoding_of}
 use Rattle.cbor_core.proofs.Writes.{spelling-List, spelling-Blob}
 use Rattle.proof_cbor.specs.declared.value.BaseValue.{BaseValue}
-use Rattle.proof_cbor.specs.Values.{base_header, base_item, base_bytes, signed, text_of, IsDraft, CanWriteBase}
+use Rattle.proof_cbor.specs.Values.{base_header, base_item, base_proof_bytes, with_signature, multibase_text, IsDraft, CanWriteBase}
 
 -- what stands before the signature: the header, the head of the list and the head of the byte string
 abbrev front : List ℕ
@@ -23,63 +23,63 @@ front = 0xd9 ∷ 0x5d ∷ 0x00 ∷ 0x85 ∷ 0x58 ∷ 0x40 ∷ []
 
 -- what stands behind it
 abbrev behind_signature : BaseValue → List ℕ
-behind_signature value = flat_map spelling (v.Blob value.key ∷ v.Blob value.secret ∷ v.List (map v.Blob value.signatures) ∷ v.List (map v.Text value.pointers) ∷ [])
+behind_signature value = flat_map encoding_of (v.Blob value.key ∷ v.Blob value.secret ∷ v.List (map v.Blob value.signatures) ∷ v.List (map v.Text value.pointers) ∷ [])
 
 heads : (n : ℕ) → n ≡ 64 → (head_of 4 5 ≡ 0x85 ∷ []) × (head_of 2 n ≡ 0x58 ∷ 0x40 ∷ [])
 unfolding head_of
 heads n e = (refl, rw e refl)
 
-pub split_bytes : (value : BaseValue) → length value.signature ≡ 64 → base_bytes value ≡ front ++ (value.signature ++ behind_signature value)
+pub split_bytes : (value : BaseValue) → length value.signature ≡ 64 → base_proof_bytes value ≡ front ++ (value.signature ++ behind_signature value)
 unfolding base_item
 split_bytes value long =
     let h = heads (length value.signature) long in
     let whole = spelling-List (v.Blob value.signature ∷ v.Blob value.key ∷ v.Blob value.secret ∷ v.List (map v.Blob value.signatures) ∷ v.List (map v.Text value.pointers) ∷ []) in
     ap (λ (z : List ℕ). base_header ++ z) (whole ∙ rw (h.0, spelling-Blob value.signature, h.1) refl)
 
-long_enough : (value : BaseValue) → length value.signature ≡ 64 → 70 ≤ length (base_bytes value)
+long_enough : (value : BaseValue) → length value.signature ≡ 64 → 70 ≤ length (base_proof_bytes value)
 long_enough value long =
     let s = ap length (split_bytes value long) in
     let n = length-append value.signature (behind_signature value) in
     omega (arith, s, n)
 
-pub put_bytes : (value : BaseValue) (old new signature : List ℕ) → IsDraft value old → length signature ≡ 64 → new ≡ take 6 old ++ (signature ++ drop 70 old) → new ≡ base_bytes (signed value signature)
+pub put_bytes : (value : BaseValue) (old new signature : List ℕ) → IsDraft value old → length signature ≡ 64 → new ≡ take 6 old ++ (signature ++ drop 70 old) → new ≡ base_proof_bytes (with_signature value signature)
 put_bytes value old new signature draft long is =
     let s : old ≡ front ++ (value.signature ++ behind_signature value) = draft.1 ∙ split_bytes value draft.0 in
     let first : take 6 old ≡ front = ap (take 6) s in
     let last : drop 70 old ≡ behind_signature value = ap (drop 70) s ∙ drop_at (front ++ value.signature) (behind_signature value) 70 (omega (arith, draft.0)) in
-    is ∙ rw (first, last) (sym (split_bytes (signed value signature) long))
+    is ∙ rw (first, last) (sym (split_bytes (with_signature value signature) long))
 
 length_encoded : (bytes : List ℕ) → length (encode_of url_safe_no_pad bytes) ≡ encoded_size_of url_safe_no_pad (length bytes)
 length_encoded bytes = rw (append-nil (encode_symbols url_safe_no_pad.encode_table bytes)) (length-encode_symbols url_safe_no_pad.encode_table bytes)
 
-pub length_text : (bytes text : List ℕ) → text ≡ text_of bytes → length text ≡ 1 + encoded_size_of url_safe_no_pad (length bytes)
+pub length_text : (bytes text : List ℕ) → text ≡ multibase_text bytes → length text ≡ 1 + encoded_size_of url_safe_no_pad (length bytes)
 length_text bytes text is = ap length is ∙ omega (arith, length_encoded bytes)
 
-pub long_bytes : (value : BaseValue) (bytes : List ℕ) → CanWriteBase value → bytes ≡ base_bytes value → 70 ≤ length bytes
+pub long_bytes : (value : BaseValue) (bytes : List ℕ) → CanWriteBase value → bytes ≡ base_proof_bytes value → 70 ≤ length bytes
 long_bytes value bytes can is = subst (λ (z : List ℕ). 70 ≤ length z) (sym is) (long_enough value can.0.signature)
 
-pub draft_is : (value : BaseValue) (bytes : List ℕ) → CanWriteBase value → bytes ≡ base_bytes value → IsDraft value bytes
+pub draft_is : (value : BaseValue) (bytes : List ℕ) → CanWriteBase value → bytes ≡ base_proof_bytes value → IsDraft value bytes
 draft_is value bytes can is = (can.0.signature, is)
 
-ascii_text : (bytes : List ℕ) → IsAscii (text_of bytes)
+ascii_text : (bytes : List ℕ) → IsAscii (multibase_text bytes)
 ascii_text bytes zero = omega arith
 ascii_text bytes (suc i) = IsAscii-encode_of url_safe_no_pad bytes i
 
-pub utf8_text : (bytes text : List ℕ) → text ≡ text_of bytes → IsUtf8 text
-utf8_text bytes text is = subst IsUtf8 (sym is) (IsUtf8-from_ascii (text_of bytes) (ascii_text bytes))
+pub utf8_text : (bytes text : List ℕ) → text ≡ multibase_text bytes → IsUtf8 text
+utf8_text bytes text is = subst IsUtf8 (sym is) (IsUtf8-from_ascii (multibase_text bytes) (ascii_text bytes))
 
 -- a buffer that was written over as a whole
 pub buffer_is : (len : ℕ) (new items : List ℕ) → length new ≡ len → take len (new ++ drop (length new) items) ≡ new
 buffer_is len new items long = take_at new (drop (length new) items) len long
 
-pub buffer_utf8 : (len : ℕ) (bytes new items : List ℕ) → new ≡ text_of bytes → length items ≡ 1 + encoded_size_of url_safe_no_pad (length bytes) → length items ≡ len → IsUtf8 (take len (new ++ drop (length new) items))
+pub buffer_utf8 : (len : ℕ) (bytes new items : List ℕ) → new ≡ multibase_text bytes → length items ≡ 1 + encoded_size_of url_safe_no_pad (length bytes) → length items ≡ len → IsUtf8 (take len (new ++ drop (length new) items))
 buffer_utf8 len bytes new items is size same =
     let long : length new ≡ len = length_text bytes new is ∙ sym size ∙ same in
     subst IsUtf8 (sym (buffer_is len new items long)) (utf8_text bytes new is)
 
 pub text_written : (bytes text out : List ℕ) → length text ≡ 1 + encoded_size_of url_safe_no_pad (length bytes)
     → out ≡ encode_of url_safe_no_pad bytes ++ drop (encoded_size_of url_safe_no_pad (length bytes)) (take (length (slice_set text 0 117) - 1) (drop 1 (slice_set text 0 117)))
-    → put_mid 1 (length (slice_set text 0 117) - 1) (slice_set text 0 117) out ≡ text_of bytes
+    → put_mid 1 (length (slice_set text 0 117) - 1) (slice_set text 0 117) out ≡ multibase_text bytes
 text_written bytes [] out long is = absurd (omega arith)
 text_written bytes (t ∷ ts) out long is =
     let size = encoded_size_of url_safe_no_pad (length bytes) in
@@ -92,8 +92,8 @@ text_written bytes (t ∷ ts) out long is =
     let two : put_mid 1 (length ts) (117 ∷ ts) out ≡ 117 ∷ (out ++ []) = ap (λ (z : List ℕ). 117 ∷ (out ++ z)) end in
     one ∙ two ∙ ap (λ (z : List ℕ). 117 ∷ z) (append-nil out ∙ all)
 
-pub finished : (value : BaseValue) (old new signature text : List ℕ) → IsDraft value old → length signature ≡ 64 → new ≡ take 6 old ++ (signature ++ drop 70 old) → text ≡ text_of new → text ≡ text_of (base_bytes (signed value signature))
-finished value old new signature text draft long is t = t ∙ ap text_of (put_bytes value old new signature draft long is)
+pub finished : (value : BaseValue) (old new signature text : List ℕ) → IsDraft value old → length signature ≡ 64 → new ≡ take 6 old ++ (signature ++ drop 70 old) → text ≡ multibase_text new → text ≡ multibase_text (base_proof_bytes (with_signature value signature))
+finished value old new signature text draft long is t = t ∙ ap multibase_text (put_bytes value old new signature draft long is)
 
 pub same_size : (old new signature : List ℕ) → 70 ≤ length old → length signature ≡ 64 → new ≡ take 6 old ++ (signature ++ drop 70 old) → length new ≡ length old
 same_size old new signature enough long is = ap length is ∙ simp (length-append, length-take, length-drop) (omega arith)

@@ -10,7 +10,8 @@ use Rattle.cbor_core.specs.declared.item.Item.{Item, fold-roll-Item}
 use Rattle.cbor_core.specs.declared.item.Item.TheOpen.{Item-F}
 use Rattle.cbor_core.specs.declared.item.Item.TheVariants as v
 use Rattle.cbor_core.specs.declared.item.Pair.{Pair}
-use Rattle.cbor_core.specs.Writing.{largest_over, nesting_step, nesting_of, count_of, keys_rise_step, keys_rise, rise, spelling}
+use Rattle.cbor_core.specs.Writing.{largest_over, nesting_step, item_nesting, count_of, keys_rise_step, keys_rise, encoding_of}
+use Rattle.base_types.specs.Order.{rise}
 use Rattle.cbor_core.proofs.Lawful.{nesting-List, nesting-Map, rise-List, rise-Map}
 use Rattle.base_types.specs.declared.memory.Memory.{Memory}
 use Rattle.proof_cbor.specs.Reading.{reading_base, reading_derived}
@@ -20,7 +21,7 @@ use Rattle.proof_cbor.proofs.Spelled.{base_read, derived_read}
 use Rattle.proof_cbor.specs.declared.value.BaseValue.{BaseValue}
 use Rattle.proof_cbor.specs.declared.value.DerivedValue.{DerivedValue}
 use Rattle.proof_cbor.specs.declared.value.MapEntry.{MapEntry}
-use Rattle.proof_cbor.specs.Values.{all_sized, digests_sized, pair_of, base_item, derived_item, base_bytes, derived_bytes, text_of, CanWriteBase, CanWriteDerived, SpellsBase, SpellsDerived}
+use Rattle.proof_cbor.specs.Values.{all_sized, digests_sized, pair_of, base_item, derived_item, base_proof_bytes, derived_proof_bytes, multibase_text, CanWriteBase, CanWriteDerived, SpellsBase, SpellsDerived}
 use Rattle.base64.specs.GeneralPurpose.{IsBytes}
 
 pub making_end : {X Y : Type 0} (f : X → Y) (xs : List X) (i : ℕ) (done : List Y) → length xs ≤ i → done ≡ map f (take i xs) → done ≡ map f xs
@@ -74,28 +75,28 @@ rise_text c = ap keys_rise (sym (v.rolls-Text c)) ∙ fold-roll-Item Bool keys_r
 rise_whole : (n : ℕ) → keys_rise (v.Whole n) ≡ true
 rise_whole n = ap keys_rise (sym (v.rolls-Whole n)) ∙ fold-roll-Item Bool keys_rise_step (Item-F.Whole n)
 
-nest_blob : (c : List ℕ) → nesting_of (v.Blob c) ≡ 0
-nest_blob c = ap nesting_of (sym (v.rolls-Blob c)) ∙ fold-roll-Item ℕ nesting_step (Item-F.Blob c)
+nest_blob : (c : List ℕ) → item_nesting (v.Blob c) ≡ 0
+nest_blob c = ap item_nesting (sym (v.rolls-Blob c)) ∙ fold-roll-Item ℕ nesting_step (Item-F.Blob c)
 
-nest_text : (c : List ℕ) → nesting_of (v.Text c) ≡ 0
-nest_text c = ap nesting_of (sym (v.rolls-Text c)) ∙ fold-roll-Item ℕ nesting_step (Item-F.Text c)
+nest_text : (c : List ℕ) → item_nesting (v.Text c) ≡ 0
+nest_text c = ap item_nesting (sym (v.rolls-Text c)) ∙ fold-roll-Item ℕ nesting_step (Item-F.Text c)
 
-nest_whole : (n : ℕ) → nesting_of (v.Whole n) ≡ 0
-nest_whole n = ap nesting_of (sym (v.rolls-Whole n)) ∙ fold-roll-Item ℕ nesting_step (Item-F.Whole n)
+nest_whole : (n : ℕ) → item_nesting (v.Whole n) ≡ 0
+nest_whole n = ap item_nesting (sym (v.rolls-Whole n)) ∙ fold-roll-Item ℕ nesting_step (Item-F.Whole n)
 
 module _ {Y : Type 0} (con : Y → Item) where
   each_rise : ((y : Y) → keys_rise (con y) ≡ true) → (ys : List Y) → list_all keys_rise (map con ys) ≡ true
   each_rise h [] = refl
   each_rise h (y ∷ ys) = rw (h y) (each_rise h ys)
 
-  each_nest : ((y : Y) → nesting_of (con y) ≡ 0) → (ys : List Y) → largest_over nesting_of (map con ys) ≡ 0
+  each_nest : ((y : Y) → item_nesting (con y) ≡ 0) → (ys : List Y) → largest_over item_nesting (map con ys) ≡ 0
   each_nest h [] = refl
   each_nest h (y ∷ ys) = let first = h y in let rest = each_nest h ys in omega arith
 
   list_rises : ((y : Y) → keys_rise (con y) ≡ true) → (ys : List Y) → keys_rise (v.List (map con ys)) ≡ true
   list_rises h ys = rise-List (map con ys) ∙ each_rise h ys
 
-  list_nests : ((y : Y) → nesting_of (con y) ≡ 0) → (ys : List Y) → nesting_of (v.List (map con ys)) ≡ 1
+  list_nests : ((y : Y) → item_nesting (con y) ≡ 0) → (ys : List Y) → item_nesting (v.List (map con ys)) ≡ 1
   list_nests h ys = nesting-List (map con ys) ∙ ap suc (each_nest h ys)
 
 abbrev number_of : MapEntry → ℕ
@@ -109,28 +110,28 @@ values_rise : (es : List MapEntry) → list_all (λ (p : Pair Item). keys_rise p
 values_rise [] = refl
 values_rise (e ∷ es) = rw (rise_blob e.digest) (values_rise es)
 
-values_nest : (es : List MapEntry) → largest_over (λ (p : Pair Item). nesting_of p.value) (map pair_of es) ≡ 0
+values_nest : (es : List MapEntry) → largest_over (λ (p : Pair Item). item_nesting p.value) (map pair_of es) ≡ 0
 values_nest [] = refl
 values_nest (e ∷ es) = let first = nest_blob e.digest in let rest = values_nest es in omega arith
 
 labels_rise : (es : List MapEntry) → rise (map number_of es) ≡ true → keys_rise (v.Map (map pair_of es)) ≡ true
 labels_rise es r = rise-Map (map pair_of es) ∙ rw (keys_are es, r, values_rise es) refl
 
-labels_nest : (es : List MapEntry) → nesting_of (v.Map (map pair_of es)) ≡ 1
+labels_nest : (es : List MapEntry) → item_nesting (v.Map (map pair_of es)) ≡ 1
 labels_nest es = nesting-Map (map pair_of es) ∙ ap suc (values_nest es)
 
 module _ (a b c d e : Item) where
   five_rise : keys_rise a ≡ true → keys_rise b ≡ true → keys_rise c ≡ true → keys_rise d ≡ true → keys_rise e ≡ true → keys_rise (v.List (a ∷ b ∷ c ∷ d ∷ e ∷ [])) ≡ true
   five_rise ra rb rc rd re = rise-List (a ∷ b ∷ c ∷ d ∷ e ∷ []) ∙ rw (ra, rb, rc, rd, re) refl
 
-  five_nest : nesting_of a ≤ 1 → nesting_of b ≤ 1 → nesting_of c ≤ 1 → nesting_of d ≤ 1 → nesting_of e ≤ 1 → nesting_of (v.List (a ∷ b ∷ c ∷ d ∷ e ∷ [])) ≤ 4
+  five_nest : item_nesting a ≤ 1 → item_nesting b ≤ 1 → item_nesting c ≤ 1 → item_nesting d ≤ 1 → item_nesting e ≤ 1 → item_nesting (v.List (a ∷ b ∷ c ∷ d ∷ e ∷ [])) ≤ 4
   five_nest na nb nc nd ne = let n = nesting-List (a ∷ b ∷ c ∷ d ∷ e ∷ []) in omega arith
 
 pub base_rises : (value : BaseValue) (item : Item) → item ≡ base_item value → keys_rise item ≡ true
 unfolding base_item
 base_rises value item is = ap keys_rise is ∙ five_rise _ _ _ _ _ (rise_blob value.signature) (rise_blob value.key) (rise_blob value.secret) (list_rises v.Blob rise_blob value.signatures) (list_rises v.Text rise_text value.pointers)
 
-pub base_nests : (value : BaseValue) (item : Item) → item ≡ base_item value → nesting_of item ≤ 4
+pub base_nests : (value : BaseValue) (item : Item) → item ≡ base_item value → item_nesting item ≤ 4
 unfolding base_item
 base_nests value item is =
     let n1 = nest_blob value.signature in
@@ -138,13 +139,13 @@ base_nests value item is =
     let n3 = nest_blob value.secret in
     let n4 = list_nests v.Blob nest_blob value.signatures in
     let n5 = list_nests v.Text nest_text value.pointers in
-    subst (λ (i : Item). nesting_of i ≤ 4) (sym is) (five_nest (v.Blob value.signature) (v.Blob value.key) (v.Blob value.secret) (v.List (map v.Blob value.signatures)) (v.List (map v.Text value.pointers)) (omega (arith, n1)) (omega (arith, n2)) (omega (arith, n3)) (omega (arith, n4)) (omega (arith, n5)))
+    subst (λ (i : Item). item_nesting i ≤ 4) (sym is) (five_nest (v.Blob value.signature) (v.Blob value.key) (v.Blob value.secret) (v.List (map v.Blob value.signatures)) (v.List (map v.Text value.pointers)) (omega (arith, n1)) (omega (arith, n2)) (omega (arith, n3)) (omega (arith, n4)) (omega (arith, n5)))
 
 pub derived_rises : (value : DerivedValue) (item : Item) → rise (map number_of value.labels) ≡ true → item ≡ derived_item value → keys_rise item ≡ true
 unfolding derived_item
 derived_rises value item r is = ap keys_rise is ∙ five_rise _ _ _ _ _ (rise_blob value.signature) (rise_blob value.key) (list_rises v.Blob rise_blob value.signatures) (labels_rise value.labels r) (list_rises v.Whole rise_whole value.indexes)
 
-pub derived_nests : (value : DerivedValue) (item : Item) → item ≡ derived_item value → nesting_of item ≤ 4
+pub derived_nests : (value : DerivedValue) (item : Item) → item ≡ derived_item value → item_nesting item ≤ 4
 unfolding derived_item
 derived_nests value item is =
     let n1 = nest_blob value.signature in
@@ -152,21 +153,21 @@ derived_nests value item is =
     let n3 = list_nests v.Blob nest_blob value.signatures in
     let n4 = labels_nest value.labels in
     let n5 = list_nests v.Whole nest_whole value.indexes in
-    subst (λ (i : Item). nesting_of i ≤ 4) (sym is) (five_nest (v.Blob value.signature) (v.Blob value.key) (v.List (map v.Blob value.signatures)) (v.Map (map pair_of value.labels)) (v.List (map v.Whole value.indexes)) (omega (arith, n1)) (omega (arith, n2)) (omega (arith, n3)) (omega (arith, n4)) (omega (arith, n5)))
+    subst (λ (i : Item). item_nesting i ≤ 4) (sym is) (five_nest (v.Blob value.signature) (v.Blob value.key) (v.List (map v.Blob value.signatures)) (v.Map (map pair_of value.labels)) (v.List (map v.Whole value.indexes)) (omega (arith, n1)) (omega (arith, n2)) (omega (arith, n3)) (omega (arith, n4)) (omega (arith, n5)))
 
 pub ruleset may_steps = (base_rises, base_nests, derived_rises, derived_nests)
 
 -- ---- the text of a value
 
-pub base_is_text : (value : BaseValue) (bytes text : List ℕ) → CanWriteBase value → count_of (base_item value) ≤ 100000 → IsBytes bytes → bytes ≡ base_bytes value → text ≡ text_of bytes → SpellsBase value text
+pub base_is_text : (value : BaseValue) (bytes text : List ℕ) → CanWriteBase value → count_of (base_item value) ≤ 100000 → IsBytes bytes → bytes ≡ base_proof_bytes value → text ≡ multibase_text bytes → SpellsBase value text
 base_is_text value bytes text can le small is t =
-    record { sizes = can.0; spelled = (count_of (base_item value), spelling (base_item value), le, can.1, (subst IsBytes is small, t ∙ ap text_of is)) }
+    record { sizes = can.0; spelled = (count_of (base_item value), encoding_of (base_item value), le, can.1, (subst IsBytes is small, t ∙ ap multibase_text is)) }
 
-pub derived_is_text : (value : DerivedValue) (bytes text : List ℕ) → CanWriteDerived value → rise value.indexes ≡ true → count_of (derived_item value) ≤ 100000 → IsBytes bytes → bytes ≡ derived_bytes value → text ≡ text_of bytes → SpellsDerived value text
+pub derived_is_text : (value : DerivedValue) (bytes text : List ℕ) → CanWriteDerived value → rise value.indexes ≡ true → count_of (derived_item value) ≤ 100000 → IsBytes bytes → bytes ≡ derived_proof_bytes value → text ≡ multibase_text bytes → SpellsDerived value text
 derived_is_text value bytes text can r le small is t =
-    record { sizes = can.0; rising = r; spelled = (count_of (derived_item value), spelling (derived_item value), le, can.1, (subst IsBytes is small, t ∙ ap text_of is)) }
+    record { sizes = can.0; rising = r; spelled = (count_of (derived_item value), encoding_of (derived_item value), le, can.1, (subst IsBytes is small, t ∙ ap multibase_text is)) }
 
-pub base_text : (value : BaseValue) (bytes seen : List ℕ) (result : Result (List ℕ) Memory) → CanWriteBase value → count_of (base_item value) ≤ 100000 → IsBytes seen → seen ≡ bytes → bytes ≡ base_bytes value → IfOk result (λ text. text ≡ text_of seen) → IfOk result (λ (text : List ℕ). SpellsBase value text)
+pub base_text : (value : BaseValue) (bytes seen : List ℕ) (result : Result (List ℕ) Memory) → CanWriteBase value → count_of (base_item value) ≤ 100000 → IsBytes seen → seen ≡ bytes → bytes ≡ base_proof_bytes value → IfOk result (λ text. text ≡ multibase_text seen) → IfOk result (λ (text : List ℕ). SpellsBase value text)
 base_text value bytes seen (Ok text) can le small same is t = base_is_text value seen text can le small (same ∙ is) t
 base_text value bytes seen (Err e) can le small same is t = tt
 
@@ -174,7 +175,7 @@ pub base_text_back : (value : BaseValue) (result : Result (List ℕ) Memory) →
 base_text_back value (Ok text) s = base_read text value s
 base_text_back value (Err e) s = tt
 
-pub derived_text : (value : DerivedValue) (bytes seen : List ℕ) (result : Result (List ℕ) Memory) → CanWriteDerived value → rise value.indexes ≡ true → count_of (derived_item value) ≤ 100000 → IsBytes seen → seen ≡ bytes → bytes ≡ derived_bytes value → IfOk result (λ text. text ≡ text_of seen) → IfOk result (λ (text : List ℕ). SpellsDerived value text)
+pub derived_text : (value : DerivedValue) (bytes seen : List ℕ) (result : Result (List ℕ) Memory) → CanWriteDerived value → rise value.indexes ≡ true → count_of (derived_item value) ≤ 100000 → IsBytes seen → seen ≡ bytes → bytes ≡ derived_proof_bytes value → IfOk result (λ text. text ≡ multibase_text seen) → IfOk result (λ (text : List ℕ). SpellsDerived value text)
 derived_text value bytes seen (Ok text) can r le small same is t = derived_is_text value seen text can r le small (same ∙ is) t
 derived_text value bytes seen (Err e) can r le small same is t = tt
 

@@ -4,7 +4,7 @@ use Rattle.std.specs.Prelude.{◌&&◌}
 use Rattle.std.specs.List.{list_all}
 use Rattle.std.proofs.lemmas.Bool.{and_parts, ltb-true, lt-ltb, le-ltb}
 use Rattle.std.proofs.lemmas.List.{nil_from_length, length-drop}
-use Rattle.cbor_core.specs.Writing.{rise}
+use Rattle.base_types.specs.Order.{rise}
 
 -- what is above a greater number is above a smaller one
 above_more : (k j : ℕ) (ks : List ℕ) → k < j → list_all (ltb j) ks ≡ true → list_all (ltb k) ks ≡ true

@@ -10,16 +10,17 @@ use Rattle.base64.proofs.EngineFacts.{decode_of-encode_of}
 use Rattle.cbor_core.specs.declared.item.Item.{Item}
 use Rattle.cbor_core.specs.declared.item.Item.TheVariants as v
 use Rattle.cbor_core.specs.declared.fault.CborFault.{CborFault}
-use Rattle.cbor_core.specs.Grammar.{Spells}
+use Rattle.cbor_core.specs.Grammar.{Encodes}
 use Rattle.cbor_core.specs.Reading.{reading}
-use Rattle.cbor_core.specs.Writing.{count_of, rise}
+use Rattle.cbor_core.specs.Writing.{count_of}
+use Rattle.base_types.specs.Order.{rise}
 use Rattle.cbor_core.proofs.Whole.{found_by, count_by, read_again}
 use Rattle.proof_cbor.specs.declared.fault.Part.TheVariants as part
 use Rattle.proof_cbor.specs.declared.fault.ValueFault.{ValueFault}
 use Rattle.proof_cbor.specs.declared.fault.ValueFault.TheVariants as fault
 use Rattle.proof_cbor.specs.declared.value.BaseValue.{BaseValue}
 use Rattle.proof_cbor.specs.declared.value.DerivedValue.{DerivedValue}
-use Rattle.proof_cbor.specs.Values.{base_header, derived_header, text_of, IsText, pair_of, base_item, derived_item, BaseSizes, DerivedSizes, SpellsBehind, SpellsBase, SpellsDerived}
+use Rattle.proof_cbor.specs.Values.{base_header, derived_header, multibase_text, IsText, pair_of, base_item, derived_item, BaseSizes, DerivedSizes, SpellsBehind, SpellsBase, SpellsDerived}
 use Rattle.proof_cbor.specs.Reading.{Gives, blob_of, blobs_of, texts_of, wholes_of, labels_of, parts_of, base_of, derived_of, decoded, bytes_of, behind, item_of, item_behind, reading_base, reading_derived}
 use Rattle.proof_cbor.proofs.Inverses.{same_ok, went_on, goes_on, ended, blob_found, blob_again, blobs_found, blobs_again, texts_found, texts_again, wholes_found, wholes_again, labels_found, labels_again, parts_found, parts_again, five_joined}
 
@@ -120,15 +121,15 @@ item_found header text bytes item t e =
     let whole : bytes ≡ header ++ a.0 = front_back header bytes a.0 front p.1 in
     let small : IsBytes a.0 = subst IsBytes p.1 (λ (i : ℕ). subst (λ (n : ℕ). n < 256) (sym (get_or-drop 3 bytes i 0)) (t.0 (3 + i))) in
     let r : reading a.0 ≡ Ok item = item_ok (reading a.0) item a.2 in
-    (count_of item, a.0, count_by a.0 (Ok item) small r, found_by a.0 (Ok item) small r, (subst IsBytes whole t.0, t.1 ∙ ap (λ (z : List ℕ). text_of z) whole))
+    (count_of item, a.0, count_by a.0 (Ok item) small r, found_by a.0 (Ok item) small r, (subst IsBytes whole t.0, t.1 ∙ ap (λ (z : List ℕ). multibase_text z) whole))
 
 bytes_again : (text bytes : List ℕ) → IsText text bytes → bytes_of text ≡ Ok bytes
 bytes_again text bytes t =
     let d : decode_of url_safe_no_pad (encode_of url_safe_no_pad bytes) ≡ Ok bytes = decode_of-encode_of url_safe_no_pad bytes refl t.0 in
-    let e : bytes_of (text_of bytes) ≡ Ok bytes = ap decoded d in
+    let e : bytes_of (multibase_text bytes) ≡ Ok bytes = ap decoded d in
     ap bytes_of t.1 ∙ e
 
-item_again : (header rest : List ℕ) (item : Item) (count : ℕ) → length header ≡ 3 → count ≤ 100000 → Spells 4 item count rest → item_behind header (header ++ rest) ≡ Ok item
+item_again : (header rest : List ℕ) (item : Item) (count : ℕ) → length header ≡ 3 → count ≤ 100000 → Encodes 4 item count rest → item_behind header (header ++ rest) ≡ Ok item
 unfolding item_behind
 item_again header rest item count three le s =
     let front : take 3 (header ++ rest) ≡ header = take_at header rest 3 three in

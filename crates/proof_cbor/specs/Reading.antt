@@ -11,7 +11,7 @@ use Rattle.cbor_core.specs.declared.item.Item.{Item, out-Item}
 use Rattle.cbor_core.specs.declared.item.Item.TheOpen.{Item-F}
 use Rattle.cbor_core.specs.declared.item.Pair.{Pair}
 use Rattle.cbor_core.specs.Reading.{reading}
-use Rattle.cbor_core.specs.Writing.{rise}
+use Rattle.base_types.specs.Order.{rise}
 use Rattle.proof_cbor.specs.declared.fault.Part.{Part}
 use Rattle.proof_cbor.specs.declared.fault.Part.TheVariants as part
 use Rattle.proof_cbor.specs.declared.fault.ValueFault.{ValueFault}

@@ -6,8 +6,9 @@ use Rattle.base64.specs.GeneralPurpose.{encode_of, IsBytes}
 use Rattle.cbor_core.specs.declared.item.Item.{Item}
 use Rattle.cbor_core.specs.declared.item.Item.TheVariants as v
 use Rattle.cbor_core.specs.declared.item.Pair.{Pair}
-use Rattle.cbor_core.specs.Grammar.{Spells}
-use Rattle.cbor_core.specs.Writing.{rise, spelling, count_of}
+use Rattle.cbor_core.specs.Grammar.{Encodes}
+use Rattle.cbor_core.specs.Writing.{encoding_of, count_of}
+use Rattle.base_types.specs.Order.{rise}
 use Rattle.proof_cbor.specs.declared.value.BaseValue.{BaseValue}
 use Rattle.proof_cbor.specs.declared.value.DerivedValue.{DerivedValue}
 use Rattle.proof_cbor.specs.declared.value.MapEntry.{MapEntry}
@@ -21,12 +22,12 @@ abbrev pub derived_header : List ℕ
 derived_header = 0xd9 ∷ 0x5d ∷ 0x01 ∷ []
 
 -- the text of bytes: `u`, and base64url without padding (RFC 4648, section 5; Controlled Identifiers 1.0, 2.4)
-abbrev pub text_of : List ℕ → List ℕ
-text_of bytes = 117 ∷ encode_of url_safe_no_pad bytes
+abbrev pub multibase_text : List ℕ → List ℕ
+multibase_text bytes = 117 ∷ encode_of url_safe_no_pad bytes
 
 -- the text is that of these bytes; each number of the list is one byte
 abbrev pub IsText : List ℕ → List ℕ → Type 0
-IsText text bytes = IsBytes bytes × (text ≡ text_of bytes)
+IsText text bytes = IsBytes bytes × (text ≡ multibase_text bytes)
 
 -- each of the byte strings has so many bytes
 abbrev pub all_sized : ℕ → List (List ℕ) → Bool
@@ -64,7 +65,7 @@ pub record DerivedSizes (value : DerivedValue) : Type 0 where
 
 -- the text spells an item behind a header, which nests at most 4 deep and has at most 100,000 items
 abbrev pub SpellsBehind : List ℕ → Item → List ℕ → Type 0
-SpellsBehind header item text = (count : ℕ) × (rest : List ℕ) × (count ≤ 100000) × Spells 4 item count rest × IsText text (header ++ rest)
+SpellsBehind header item text = (count : ℕ) × (rest : List ℕ) × (count ≤ 100000) × Encodes 4 item count rest × IsText text (header ++ rest)
 
 -- the text spells the base value
 pub record SpellsBase (value : BaseValue) (text : List ℕ) : Type 0 where
@@ -79,23 +80,23 @@ pub record SpellsDerived (value : DerivedValue) (text : List ℕ) : Type 0 where
   pub spelled : SpellsBehind derived_header (derived_item value) text
 
 -- the bytes that are written for a value, its label map by rising number
-abbrev pub base_bytes : BaseValue → List ℕ
-base_bytes value = base_header ++ spelling (base_item value)
+abbrev pub base_proof_bytes : BaseValue → List ℕ
+base_proof_bytes value = base_header ++ encoding_of (base_item value)
 
-abbrev pub derived_bytes : DerivedValue → List ℕ
-derived_bytes value = derived_header ++ spelling (derived_item value)
+abbrev pub derived_proof_bytes : DerivedValue → List ℕ
+derived_proof_bytes value = derived_header ++ encoding_of (derived_item value)
 
 -- the value is one of Rust's types, and its bytes spell it
 abbrev pub CanWriteBase : BaseValue → Type 0
-CanWriteBase value = BaseSizes value × Spells 4 (base_item value) (count_of (base_item value)) (spelling (base_item value))
+CanWriteBase value = BaseSizes value × Encodes 4 (base_item value) (count_of (base_item value)) (encoding_of (base_item value))
 
 abbrev pub CanWriteDerived : DerivedValue → Type 0
-CanWriteDerived value = DerivedSizes value × Spells 4 (derived_item value) (count_of (derived_item value)) (spelling (derived_item value))
+CanWriteDerived value = DerivedSizes value × Encodes 4 (derived_item value) (count_of (derived_item value)) (encoding_of (derived_item value))
 
 -- the base value with another signature
-abbrev pub signed : BaseValue → List ℕ → BaseValue
-signed value signature = record value { signature = signature }
+abbrev pub with_signature : BaseValue → List ℕ → BaseValue
+with_signature value signature = record value { signature = signature }
 
 -- the bytes of a draft are those of the value
 abbrev pub IsDraft : BaseValue → List ℕ → Type 0
-IsDraft value bytes = (length value.signature ≡ 64) × (bytes ≡ base_bytes value)
+IsDraft value bytes = (length value.signature ≡ 64) × (bytes ≡ base_proof_bytes value)

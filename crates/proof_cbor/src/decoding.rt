@@ -1,5 +1,6 @@
 ghost use Rattle.std.specs.Prelude.{◌≡◌, ◌≤◌, true, map, IfOk, Ok};
-ghost use Rattle.cbor_core.specs.Writing.{count_of, rise};
+ghost use Rattle.cbor_core.specs.Writing.{count_of};
+ghost use Rattle.base_types.specs.Order.{rise};
 ghost use Rattle.proof_cbor.specs.declared.value.MapEntry.{MapEntry};
 ghost use Rattle.proof_cbor.specs.declared.value.BaseValue.{BaseValue};
 ghost use Rattle.proof_cbor.specs.declared.value.DerivedValue.{DerivedValue};

@@ -4,7 +4,7 @@ ghost use Rattle.base64.specs.Engines.{url_safe_no_pad};
 ghost use Rattle.base64.specs.GeneralPurpose.{IsBytes, encoded_size_of};
 ghost use Rattle.cbor_core.specs.Writing.{count_of};
 ghost use Rattle.proof_cbor.specs.declared.value.BaseValue.{BaseValue};
-ghost use Rattle.proof_cbor.specs.Values.{text_of, base_item, base_bytes, signed, CanWriteBase, IsDraft, SpellsBase};
+ghost use Rattle.proof_cbor.specs.Values.{multibase_text, base_item, base_proof_bytes, with_signature, CanWriteBase, IsDraft, SpellsBase};
 
 use crate::encoding::{bytes_of_base, text_in};
 use crate::value::BaseValue;
@@ -47,7 +47,7 @@ fn put_signature(bytes: &mut [u8], signature: &[u8; 64])
 #[tactic(auto, using(crate::proofs::Drafts::draft_steps))]
 fn write_text(bytes: &[u8], text: &mut [u8])
     requires { length text.old ≡ 1 + encoded_size_of url_safe_no_pad (length bytes.now) }
-    ensures { text.new ≡ text_of bytes.now }
+    ensures { text.new ≡ multibase_text bytes.now }
 {
     text[0] = b'u';
     let Ok(_written) = URL_SAFE_NO_PAD.encode_slice(bytes, &mut text[1..]) else {
@@ -71,7 +71,7 @@ fn with_signature(bytes: Vec<u8>, signature: &[u8; 64]) -> Vec<u8>
 #[tactic(auto, using(crate::proofs::Drafts::draft_steps))]
 fn text_over(bytes: &[u8], buffer: Vec<u8>) -> Text
     requires { length buffer.items ≡ 1 + encoded_size_of url_safe_no_pad (length bytes.now) }
-    ensures text { result ≡ text_of bytes.now }
+    ensures text { result ≡ multibase_text bytes.now }
     ensures proper { IsBytes bytes.now }
 {
     let mut buffer = buffer;
@@ -99,10 +99,10 @@ impl BaseDraft {
     /// The text of the value with this signature in place of its own. It takes no memory.
     #[tactic(auto, using(crate::proofs::Drafts::draft_steps))]
     pub fn finish(self, signature: &[u8; 64]) -> Text
-        ensures text { (value : BaseValue) → IsDraft value self → result ≡ text_of (base_bytes (signed value signature.now)) }
+        ensures text { (value : BaseValue) → IsDraft value self → result ≡ multibase_text (base_proof_bytes (with_signature value signature.now)) }
         // It spells that value, where this can be written.
-        ensures spelled { (value : BaseValue) → IsDraft value self → CanWriteBase (signed value signature.now)
-            → count_of (base_item (signed value signature.now)) ≤ 100000 → SpellsBase (signed value signature.now) result }
+        ensures spelled { (value : BaseValue) → IsDraft value self → CanWriteBase (with_signature value signature.now)
+            → count_of (base_item (with_signature value signature.now)) ≤ 100000 → SpellsBase (with_signature value signature.now) result }
         ensures long { length signature.now ≡ 64 }
     {
         let BaseDraft { bytes, text } = self;

@@ -1,9 +1,10 @@
 ghost use Rattle.std.specs.Prelude.{◌≡◌, ◌≤◌, ◌++◌, true, map, IfOk, Ok};
 ghost use Rattle.base64.specs.GeneralPurpose.{IsBytes};
-ghost use Rattle.cbor_core.specs.Grammar.{Spells};
-ghost use Rattle.cbor_core.specs.Writing.{nesting_of, count_of, keys_rise, rise, spelling};
+ghost use Rattle.cbor_core.specs.Grammar.{Encodes};
+ghost use Rattle.cbor_core.specs.Writing.{item_nesting, count_of, keys_rise, encoding_of};
+ghost use Rattle.base_types.specs.Order.{rise};
 ghost use Rattle.proof_cbor.specs.declared.value.MapEntry.{MapEntry};
-ghost use Rattle.proof_cbor.specs.Values.{text_of, base_item, derived_item, base_bytes, derived_bytes, CanWriteBase, CanWriteDerived, SpellsBase, SpellsDerived};
+ghost use Rattle.proof_cbor.specs.Values.{multibase_text, base_item, derived_item, base_proof_bytes, derived_proof_bytes, CanWriteBase, CanWriteDerived, SpellsBase, SpellsDerived};
 ghost use Rattle.proof_cbor.specs.Reading.{reading_base, reading_derived};
 
 use crate::headers::{BASE_HEADER, DERIVED_HEADER};
@@ -17,10 +18,10 @@ use std::alloc::Global;
 /// The bytes of an item behind a header.
 fn bytes_behind(alloc: Global, header: &[u8; 3], item: &Item) -> Result<Vec<u8>, Memory>
     requires keys { keys_rise item.now ≡ true }
-    requires nesting { nesting_of item.now ≤ 4 }
+    requires nesting { item_nesting item.now ≤ 4 }
     requires count { count_of item.now ≤ 100000 }
-    ensures written { IfOk result (λ bytes. bytes.items ≡ header.now ++ spelling item.now) }
-    ensures spelled { IfOk result (λ _. Spells 4 item.now (count_of item.now) (spelling item.now)) }
+    ensures written { IfOk result (λ bytes. bytes.items ≡ header.now ++ encoding_of item.now) }
+    ensures spelled { IfOk result (λ _. Encodes 4 item.now (count_of item.now) (encoding_of item.now)) }
 {
     let spelling = encode(alloc, item)?;
     let mut bytes = Vec::new(alloc);
@@ -31,7 +32,7 @@ fn bytes_behind(alloc: Global, header: &[u8; 3], item: &Item) -> Result<Vec<u8>,
 
 /// The text of bytes: `u`, and base64url without padding.
 pub fn text_in(alloc: Global, bytes: &[u8]) -> Result<Text, Memory>
-    ensures text { IfOk result (λ text. text ≡ text_of bytes.now) }
+    ensures text { IfOk result (λ text. text ≡ multibase_text bytes.now) }
     ensures proper { IsBytes bytes.now }
 {
     let mut text = String::new(alloc);
@@ -44,7 +45,7 @@ pub fn text_in(alloc: Global, bytes: &[u8]) -> Result<Text, Memory>
 #[tactic(auto, using(crate::proofs::Making::may_steps))]
 pub fn bytes_of_base(alloc: Global, value: &BaseValue) -> Result<Vec<u8>, Memory>
     requires { count_of (base_item value.now) ≤ 100000 }
-    ensures written { IfOk result (λ bytes. bytes.items ≡ base_bytes value.now) }
+    ensures written { IfOk result (λ bytes. bytes.items ≡ base_proof_bytes value.now) }
     ensures spelled { IfOk result (λ _. CanWriteBase value.now) }
 {
     let item = item_of_base(alloc, value)?;
@@ -57,7 +58,7 @@ fn bytes_of_derived(alloc: Global, value: &DerivedValue) -> Result<Vec<u8>, Memo
     requires labels { rise (map (λ (e : MapEntry). e.number) value.now.labels) ≡ true }
     requires indexes { rise value.now.indexes ≡ true }
     requires count { count_of (derived_item value.now) ≤ 100000 }
-    ensures written { IfOk result (λ bytes. bytes.items ≡ derived_bytes value.now) }
+    ensures written { IfOk result (λ bytes. bytes.items ≡ derived_proof_bytes value.now) }
     ensures spelled { IfOk result (λ _. CanWriteDerived value.now) }
 {
     let item = item_of_derived(alloc, value)?;
@@ -68,7 +69,7 @@ fn bytes_of_derived(alloc: Global, value: &DerivedValue) -> Result<Vec<u8>, Memo
 pub fn encode_base(alloc: Global, value: &BaseValue) -> Result<Text, Memory>
     requires { count_of (base_item value.now) ≤ 100000 }
     // The text is `u` and base64url of the header and the item.
-    ensures written { IfOk result (λ text. text ≡ text_of (base_bytes value.now)) }
+    ensures written { IfOk result (λ text. text ≡ multibase_text (base_proof_bytes value.now)) }
     // It spells the value.
     ensures spelled { IfOk result (λ text. SpellsBase value.now text) }
     // It reads back as the value.
@@ -85,7 +86,7 @@ pub fn encode_derived(alloc: Global, value: &DerivedValue) -> Result<Text, Memor
     requires indexes { rise value.now.indexes ≡ true }
     requires count { count_of (derived_item value.now) ≤ 100000 }
     // The text is `u` and base64url of the header and the item.
-    ensures written { IfOk result (λ text. text ≡ text_of (derived_bytes value.now)) }
+    ensures written { IfOk result (λ text. text ≡ multibase_text (derived_proof_bytes value.now)) }
     // It spells the value.
     ensures spelled { IfOk result (λ text. SpellsDerived value.now text) }
     // It reads back as the value.

@@ -1,5 +1,5 @@
 ghost use Rattle.std.specs.Prelude.{◌≡◌, ◌∷◌};
-ghost use Rattle.cbor_core.specs.Writing.{rise};
+ghost use Rattle.base_types.specs.Order.{rise};
 ghost use Rattle.proof_cbor.specs.Reading.{Gives, one_of, blob_of, entry_kind, digest_size, parts_of};
 
 use crate::fault::{Part, ValueFault};

@@ -6,7 +6,7 @@ use Rattle.base_types.proofs.Lists.{Contains-nil, Contains-map, Contains-from_ma
 use Rattle.digest_mac.specs.Digests.{sha256_digits}
 use Rattle.nquads.specs.Terms.{Blank, Statement}
 use Rattle.nquads.specs.Renaming.{StandsIn}
-use Rattle.nquads.specs.Spelling.{blank_text, spelled}
+use Rattle.nquads.specs.Spelling.{blank_text, text_quad}
 use Rattle.nquads.specs.Lines.{canonical_lines}
 use Rattle.nquads.specs.Texts.{label_in, Names}
 use Rattle.nquads.specs.declared.hashes.BlankHash.{BlankHash}
@@ -60,7 +60,7 @@ module _ (q : List Statement) (r : Result Blank) (d : IsRun (nodes q) r) where
         numbered = numbered q [] r.issuer differs refl ∙ ap canonical_ids (sym (labels-length q r.issuer));
       }
 
-  pub run-named : All (Names (labels_of q r.issuer)) (map spelled q)
+  pub run-named : All (Names (labels_of q r.issuer)) (map text_quad q)
   run-named = dataset-named q r.issuer covers
 
   pub run-lines : canonical_lines (label_in (labels_of q r.issuer)) q ≡ canonical_lines (canonical_id (nodes q) r.issuer) q
@@ -88,7 +88,7 @@ module _ (q : List Statement) (firsts : List BlankHash) (rows : List NodeRow) (t
 -- What `canonicalise` has at hand: a run over the table, its labels, and lines under them.
 pub record Answered (q : List Statement) (firsts : List BlankHash) (rows : List NodeRow) (quads : List TextQuad) (work_limit depth_limit : ℕ) (labels : List TextLabel) (lines : List (List ℕ)) (tie : Bool) (work : ℕ) : Type 0 where
   pub issuer : List ℕ
-  pub is : quads ≡ map spelled q
+  pub is : quads ≡ map text_quad q
   pub table : IsTableWith q firsts [] rows
   pub closed : IsClosed rows
   pub numbers : AnswersNumbers (table_nodes rows) work_limit depth_limit issuer tie work

@@ -8,13 +8,13 @@ use Rattle.std.proofs.lemmas.Option.{slice_get-get_or}
 use Rattle.std.proofs.lemmas.List.{map-append, length-append, length-map}
 use Rattle.std.proofs.lemmas.List.Elements.{Contains-append_left, Contains-append_right}
 use Rattle.std.proofs.lemmas.List.Sorted.{IsPermutation-middle}
-use Rattle.base_types.specs.Order.{rising}
+use Rattle.base_types.specs.Order.{sorted_set}
 use Rattle.base_types.specs.Sets.{AllDiffer}
 use Rattle.base_types.proofs.Lists.{Contains-here, Contains-there, Contains-cons_cases, Contains-nil, Contains-from_map, AllByRecursion-contains}
 use Rattle.digest_mac.specs.Digests.{sha256_digits}
 use Rattle.nquads.specs.Terms.{Blank, Term, iri, literal, blank, Statement}
 use Rattle.nquads.specs.Renaming.{StandsIn, blanks_of, blanks_of_term, blanks_of_graph}
-use Rattle.nquads.specs.Spelling.{blank_text, spelling, spelled}
+use Rattle.nquads.specs.Spelling.{blank_text, spelling, text_quad}
 use Rattle.nquads.specs.Lines.{line, canonical_lines}
 use Rattle.nquads.specs.Texts.{label, find_label, label_in, IsNamed, Names}
 use Rattle.nquads.specs.declared.labels.TextLabel.{TextLabel}
@@ -155,7 +155,7 @@ module _ (q : List Statement) where
   label_in-is d b k = ap (λ o. unwrap_or o []) (find-some (canonical_id (nodes q) d) d b k)
 
   pub lines-agree : (f g : Blank → List ℕ) → ((b : Blank) → StandsIn q b → f b ≡ g b) → canonical_lines f q ≡ canonical_lines g q
-  lines-agree f g h = ap rising (map-agree (InPlace q) (line f) (line g) (λ s p. line-agree f g s (Each-weaker (StandsIn q) (λ b. f b ≡ g b) h (blanks_of s) p)) q (in_place q))
+  lines-agree f g h = ap sorted_set (map-agree (InPlace q) (line f) (line g) (λ s p. line-agree f g s (Each-weaker (StandsIn q) (λ b. f b ≡ g b) h (blanks_of s) p)) q (in_place q))
 
   -- ---- each blank node is named
 
@@ -175,14 +175,14 @@ module _ (q : List Statement) where
     graph-named None h = tt
     graph-named (Some t) h = term-named t h
 
-    statement-named : (s : Statement) → ((b : Blank) → Contains (blanks_of s) b → Contains d b) → Names (labels_of q d) (spelled s)
+    statement-named : (s : Statement) → ((b : Blank) → Contains (blanks_of s) b → Contains d b) → Names (labels_of q d) (text_quad s)
     statement-named s h = record {
       subject = term-named s.subject (λ b k. h b (Contains-append_left (blanks_of_term s.subject) (blanks_of_term s.object ++ blanks_of_graph s.graph) b k));
       object = term-named s.object (λ b k. h b (Contains-append_right (blanks_of_term s.subject) (blanks_of_term s.object ++ blanks_of_graph s.graph) b (Contains-append_left (blanks_of_term s.object) (blanks_of_graph s.graph) b k)));
       graph = graph-named s.graph (λ b k. h b (Contains-append_right (blanks_of_term s.subject) (blanks_of_term s.object ++ blanks_of_graph s.graph) b (Contains-append_right (blanks_of_term s.object) (blanks_of_graph s.graph) b k)));
     }
 
-    pub dataset-named : ((b : Blank) → StandsIn q b → Contains d b) → All (Names (labels_of q d)) (map spelled q)
-    dataset-named h = All-from_contains (Names (labels_of q d)) (map spelled q) (λ x k.
-        let from = Contains-from_map spelled q x k in
+    pub dataset-named : ((b : Blank) → StandsIn q b → Contains d b) → All (Names (labels_of q d)) (map text_quad q)
+    dataset-named h = All-from_contains (Names (labels_of q d)) (map text_quad q) (λ x k.
+        let from = Contains-from_map text_quad q x k in
         subst (Names (labels_of q d)) from.2 (statement-named from.0 (λ b n. h b (to_blanks_in q from.0 b from.1 n))))

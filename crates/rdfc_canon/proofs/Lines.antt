@@ -7,10 +7,10 @@ use Rattle.std.specs.Cmp.Lexicographic.{slice_cmp}
 use Rattle.std.specs.Ordering.{nat_cmp}
 use Rattle.std.proofs.lemmas.List.{map-append, length-map}
 use Rattle.std.proofs.lemmas.List.Filters.{dedup_is}
-use Rattle.base_types.specs.Order.{rising}
+use Rattle.base_types.specs.Order.{sorted_set}
 use Rattle.base_types.proofs.Rising.{rising-dedup}
 use Rattle.nquads.specs.Lines.{line, canonical_lines}
-use Rattle.nquads.specs.Spelling.{spelled}
+use Rattle.nquads.specs.Spelling.{text_quad}
 use Rattle.nquads.specs.Terms.{Blank, iri, Statement}
 use Rattle.nquads.specs.Texts.{Names, label_in}
 use Rattle.nquads.specs.declared.labels.TextLabel.{TextLabel}
@@ -24,17 +24,17 @@ get_or-map f [] k d y lt e = absurd (omega arith)
 get_or-map f (x ∷ xs) zero d y lt e = e
 get_or-map f (x ∷ xs) (suc k) d y lt e = get_or-map f xs k d y (omega arith) e
 
-module _ (labels : List TextLabel) (q : List Statement) (quads : List TextQuad) (is : quads ≡ map spelled q) (all : All (Names labels) quads) where
+module _ (labels : List TextLabel) (q : List Statement) (quads : List TextQuad) (is : quads ≡ map text_quad q) (all : All (Names labels) quads) where
   long : length quads ≡ length q
-  long = ap length is ∙ length-map q spelled
+  long = ap length is ∙ length-map q text_quad
 
   pub line-next : (k : ℕ) (quad : TextQuad) (old new : List (List ℕ)) → k < length quads → quad ≡ get_or quads k quad → old ≡ map (line (label_in labels)) (take k q)
-      → ((s : Statement) → quad ≡ spelled s → Names labels quad → new ≡ old ++ line (label_in labels) s ∷ []) → new ≡ map (line (label_in labels)) (take (k + 1) q)
+      → ((s : Statement) → quad ≡ text_quad s → Names labels quad → new ≡ old ++ line (label_in labels) s ∷ []) → new ≡ map (line (label_in labels)) (take (k + 1) q)
   line-next k quad old new lt at done pushed =
       let same = long in
       let inside : k < length q = omega arith in
       let s = get_or q k no_statement in
-      let spell : quad ≡ spelled s = get_or-map spelled q k no_statement quad inside (at ∙ ap (λ qs. get_or qs k quad) is) in
+      let spell : quad ≡ text_quad s = get_or-map text_quad q k no_statement quad inside (at ∙ ap (λ qs. get_or qs k quad) is) in
       let named : Names labels quad = subst (Names labels) (sym at) (all k quad lt) in
       pushed s spell named ∙ ap (λ ls. ls ++ line (label_in labels) s ∷ []) done
       ∙ sym (map-append (line (label_in labels)) (take k q) (s ∷ []))
@@ -44,4 +44,4 @@ module _ (labels : List TextLabel) (q : List Statement) (quads : List TextQuad) 
   lines-end k lines past done = let same = long in done ∙ ap (map (line (label_in labels))) (take_all k q (omega arith))
 
 pub lines-canonical : (label : Blank → List ℕ) (q : List Statement) (lines up kept : List (List ℕ)) → lines ≡ map (line label) q → IsPermutation lines up → IsSorted (slice_cmp nat_cmp) up → IsFiltered (DiffersFromLast bytes_eq) [] up kept → kept ≡ canonical_lines label q
-lines-canonical label q lines up kept made moved sorted filtered = dedup_is bytes_eq up kept filtered ∙ rising-dedup lines up moved sorted ∙ ap rising made
+lines-canonical label q lines up kept made moved sorted filtered = dedup_is bytes_eq up kept filtered ∙ rising-dedup lines up moved sorted ∙ ap sorted_set made

@@ -1,7 +1,7 @@
 ghost use Rattle.std.specs.Prelude.{◌≡◌, ◌↔◌, ℕ, List, map, true, false, All, IfOk, IsErrOf, Err};
 ghost use Rattle.nquads.specs.Terms.{Blank, Statement, IsStatement};
 ghost use Rattle.nquads.specs.Lines.{canonical_lines};
-ghost use Rattle.nquads.specs.Spelling.{spelled};
+ghost use Rattle.nquads.specs.Spelling.{text_quad};
 ghost use Rattle.rdfc_ndegree.specs.declared.limits.CanonFault.TheVariants as fault;
 ghost use Rattle.rdfc_canon.specs.Canon.{nodes, labels_of, NameAll, AnswersRun, Result, IsRun, MeetsTie, WorkOver, DepthOver, WithinLimits};
 ghost use Rattle.rdfc_canon.specs.Form.{Canonicalised};
@@ -36,20 +36,20 @@ pub struct Canon {
 /// - `Memory`: there is no memory for it.
 pub fn canonicalise(alloc: Global, quads: &TextQuads, limits: &Limits) -> Result<Canon, CanonFault>
     // The answer is that of one run, within both limits.
-    ensures ok { (q : List Statement) → quads.now ≡ map spelled q
+    ensures ok { (q : List Statement) → quads.now ≡ map text_quad q
         → IfOk result (λ c. AnswersRun q limits.now.work limits.now.depth c.labels c.lines c.tie c.work) }
     // Each blank node has one label, and no two have the same.
-    ensures labels { (q : List Statement) → quads.now ≡ map spelled q → IfOk result (λ c. NameAll q c.labels) }
+    ensures labels { (q : List Statement) → quads.now ≡ map text_quad q → IfOk result (λ c. NameAll q c.labels) }
     // A tie is reported exactly where a run meets one, and without one every run gives these labels.
-    ensures tie { (q : List Statement) → quads.now ≡ map spelled q → IfOk result (λ c. (c.tie ≡ true) ↔ MeetsTie (nodes q)) }
-    ensures every_run { (q : List Statement) → quads.now ≡ map spelled q
+    ensures tie { (q : List Statement) → quads.now ≡ map text_quad q → IfOk result (λ c. (c.tie ≡ true) ↔ MeetsTie (nodes q)) }
+    ensures every_run { (q : List Statement) → quads.now ≡ map text_quad q
         → IfOk result (λ c. c.tie ≡ false → (r : Result Blank) → IsRun (nodes q) r → c.labels ≡ labels_of q r.issuer) }
     // A limit is answered only where some run is over it, and so not within both limits.
-    ensures work { (q : List Statement) (limit : ℕ) → quads.now ≡ map spelled q → result ≡ Err (fault.TooMuchWork limit)
+    ensures work { (q : List Statement) (limit : ℕ) → quads.now ≡ map text_quad q → result ≡ Err (fault.TooMuchWork limit)
         → (limit ≡ limits.now.work) × WorkOver (nodes q) limit }
-    ensures deep { (q : List Statement) (limit : ℕ) → quads.now ≡ map spelled q → result ≡ Err (fault.TooDeep limit)
+    ensures deep { (q : List Statement) (limit : ℕ) → quads.now ≡ map text_quad q → result ≡ Err (fault.TooDeep limit)
         → (limit ≡ limits.now.depth) × DepthOver (nodes q) limit }
-    ensures within { (q : List Statement) → quads.now ≡ map spelled q → WithinLimits (nodes q) limits.now.work limits.now.depth
+    ensures within { (q : List Statement) → quads.now ≡ map text_quad q → WithinLimits (nodes q) limits.now.work limits.now.depth
         → (error : _) → result ≡ Err error → error ≡ fault.Memory }
 {
     canonical_form(alloc, quads, limits)
@@ -57,7 +57,7 @@ pub fn canonicalise(alloc: Global, quads: &TextQuads, limits: &Limits) -> Result
 
 /// First-degree hashes, the table of the blank nodes, their canonical numbers, and then labels and lines.
 fn canonical_form(alloc: Global, quads: &TextQuads, limits: &Limits) -> Result<Canon, CanonFault>
-    ensures { (q : List Statement) → quads.now ≡ map spelled q → Canonicalised q limits.now result }
+    ensures { (q : List Statement) → quads.now ≡ map text_quad q → Canonicalised q limits.now result }
 {
     let firsts = first_hashes(alloc, quads)?;
     let table = node_table(alloc, quads, firsts.as_slice(), &[])?;

@@ -2,7 +2,7 @@
 //! step 6).
 ghost use Rattle.std.specs.Prelude.{◌≡◌, [], ◌∷◌, ◌++◌, List, All, map, slice_get, codes, decimal, length, IfOk, OnOk};
 ghost use Rattle.nquads.specs.Lines.{canonical_lines, line};
-ghost use Rattle.nquads.specs.Spelling.{spelled};
+ghost use Rattle.nquads.specs.Spelling.{text_quad};
 ghost use Rattle.nquads.specs.Terms.{Statement};
 ghost use Rattle.nquads.specs.Texts.{Names, label_in};
 ghost use Rattle.rdfc_canon.specs.Labelling.{all_labels, with_label};
@@ -56,7 +56,7 @@ pub fn canonical_lines(
     quads: &TextQuads,
     labels: &TextLabels,
 ) -> Result<Sequence<Text>, Memory>
-    ensures { (q : List Statement) → quads.now ≡ map spelled q → All (Names labels.now) quads.now
+    ensures { (q : List Statement) → quads.now ≡ map text_quad q → All (Names labels.now) quads.now
         → IfOk result (λ lines. lines ≡ canonical_lines (label_in labels.now) q) }
 {
     let mut lines = lines_of(alloc, quads.as_slice(), labels)?;
@@ -67,7 +67,7 @@ pub fn canonical_lines(
 
 /// The line of each statement whose blank nodes all have labels, as those of a labelled dataset do.
 fn lines_of(alloc: Global, quads: &[TextQuad], labels: &TextLabels) -> Result<Vec<Text>, Memory>
-    ensures { (q : List Statement) → quads.now ≡ map spelled q → All (Names labels.now) quads.now
+    ensures { (q : List Statement) → quads.now ≡ map text_quad q → All (Names labels.now) quads.now
         → IfOk result (λ lines. lines.items ≡ map (line (label_in labels.now)) q) }
 {
     let mut lines = Vec::new(alloc);
@@ -83,7 +83,7 @@ fn push_line(
     quad: &TextQuad,
     labels: &TextLabels,
 ) -> Result<(), Memory>
-    ensures { (s : Statement) → quad.now ≡ spelled s → Names labels.now quad.now
+    ensures { (s : Statement) → quad.now ≡ text_quad s → Names labels.now quad.now
         → OnOk result (lines.new.items ≡ lines.old.items ++ line (label_in labels.now) s ∷ []) }
 {
     if names(labels, quad) {

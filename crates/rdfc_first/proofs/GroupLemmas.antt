@@ -14,7 +14,7 @@ use Rattle.std.proofs.lemmas.List.{map-append, take-append-drop}
 use Rattle.std.proofs.lemmas.List.Elements.{filter-append, recursion_from_All, Contains-append_left, Contains-append_right, Contains-append_cases}
 use Rattle.std.proofs.lemmas.List.Sums.{sum_by-cons}
 use Rattle.std.proofs.lemmas.List.Sorted.{sorted_far, ranks_by, sum_by-IsPermutation}
-use Rattle.base_types.specs.Order.{is_upto, in_order, rising}
+use Rattle.base_types.specs.Order.{is_upto, in_order, sorted_set}
 use Rattle.base_types.specs.Sets.{SameElements}
 use Rattle.base_types.proofs.Lists.{Contains-here, Contains-there, Contains-cons_cases, Contains-from_map, AllByRecursion-contains, irreflexive}
 use Rattle.base_types.proofs.Orders.{text_cmp, is_upto-cmp, is_upto-refl, by_cmp, in_order-only, InOrder, IsSorted-InOrder}
@@ -156,31 +156,31 @@ module _ (b : List ℕ) (run later : List MarkedLine) (in_run : AllByRecursion (
       let found = Contains-from_map blank_of later c m in
       subst (λ z. text_cmp b z ≡ Less) found.2 (AllByRecursion-contains (λ (m : MarkedLine). text_cmp b m.blank ≡ Less) later found.0 after found.1)
 
-  pub rising-run : Contains (map blank_of run) b → rising (map blank_of (run ++ later)) ≡ b ∷ rising (map blank_of later)
+  pub rising-run : Contains (map blank_of run) b → sorted_set (map blank_of (run ++ later)) ≡ b ∷ sorted_set (map blank_of later)
   rising-run here =
       let both : map blank_of (run ++ later) ≡ map blank_of run ++ map blank_of later = map-append blank_of run later in
-      sym (rising-only (map blank_of (run ++ later)) (b ∷ rising (map blank_of later)) rises (subst (SameElements (b ∷ rising (map blank_of later))) (sym both) (λ x. (to x, fro x))))
+      sym (rising-only (map blank_of (run ++ later)) (b ∷ sorted_set (map blank_of later)) rises (subst (SameElements (b ∷ sorted_set (map blank_of later))) (sym both) (λ x. (to x, fro x))))
     where
-      rises : IsStrictlySortedBy text_cmp (b ∷ rising (map blank_of later))
+      rises : IsStrictlySortedBy text_cmp (b ∷ sorted_set (map blank_of later))
       rises =
-          strictly_sorted-cons b (rising (map blank_of later))
-          (recursion_from_All (λ c. text_cmp b c ≡ Less) (rising (map blank_of later)) (All-from_contains (λ c. text_cmp b c ≡ Less) (rising (map blank_of later)) (λ c m. blanks_after c ((rising-same (map blank_of later) c).0 m))))
+          strictly_sorted-cons b (sorted_set (map blank_of later))
+          (recursion_from_All (λ c. text_cmp b c ≡ Less) (sorted_set (map blank_of later)) (All-from_contains (λ c. text_cmp b c ≡ Less) (sorted_set (map blank_of later)) (λ c m. blanks_after c ((rising-same (map blank_of later) c).0 m))))
           (rising-rises (map blank_of later))
 
-      to : (x : List ℕ) → Contains (b ∷ rising (map blank_of later)) x → Contains (map blank_of run ++ map blank_of later) x
+      to : (x : List ℕ) → Contains (b ∷ sorted_set (map blank_of later)) x → Contains (map blank_of run ++ map blank_of later) x
       to x c =
-          elim (Contains-cons_cases b (rising (map blank_of later)) x c) [
+          elim (Contains-cons_cases b (sorted_set (map blank_of later)) x c) [
             | inl e ↦ Contains-append_left (map blank_of run) (map blank_of later) x (subst (Contains (map blank_of run)) e here)
             | inr d ↦ Contains-append_right (map blank_of run) (map blank_of later) x ((rising-same (map blank_of later) x).0 d)
           ]
 
-      fro : (x : List ℕ) → Contains (map blank_of run ++ map blank_of later) x → Contains (b ∷ rising (map blank_of later)) x
+      fro : (x : List ℕ) → Contains (map blank_of run ++ map blank_of later) x → Contains (b ∷ sorted_set (map blank_of later)) x
       fro x c =
           elim (Contains-append_cases (map blank_of run) (map blank_of later) x c) [
             | inl d ↦ let found = Contains-from_map blank_of run x d in
                 let same : found.0.blank ≡ b = (bytes_eq-Decides found.0.blank b).0 (AllByRecursion-contains (λ (m : MarkedLine). bytes_eq m.blank b ≡ true) run found.0 in_run found.1) in
-                subst (Contains (b ∷ rising (map blank_of later))) (sym same ∙ found.2) (Contains-here b (rising (map blank_of later)))
-            | inr d ↦ Contains-there b (rising (map blank_of later)) x ((rising-same (map blank_of later) x).1 d)
+                subst (Contains (b ∷ sorted_set (map blank_of later))) (sym same ∙ found.2) (Contains-here b (sorted_set (map blank_of later)))
+            | inr d ↦ Contains-there b (sorted_set (map blank_of later)) x ((rising-same (map blank_of later) x).1 d)
           ]
 
   hashes_agree : (cs : List (List ℕ)) → ((c : List ℕ) → Contains cs c → b ≡ c → ⊥) → map (hash_in (run ++ later)) cs ≡ map (hash_in later) cs
@@ -193,7 +193,7 @@ module _ (b : List ℕ) (run later : List MarkedLine) (in_run : AllByRecursion (
   pub hashed-run : Contains (map blank_of run) b → hashed (run ++ later) ≡ blank_hash b (sha256_digits (concat (map (λ (m : MarkedLine). m.line) run))) ∷ hashed later
   hashed-run here =
       let first : hash_in (run ++ later) b ≡ blank_hash b (sha256_digits (concat (map (λ (m : MarkedLine). m.line) run))) = ap (λ ls. blank_hash b (sha256_digits (concat ls))) lines_for-run in
-      let rest = hashes_agree (rising (map blank_of later)) (λ c m. irreflexive nat_list_cmp_total b c (blanks_after c ((rising-same (map blank_of later) c).0 m))) in
+      let rest = hashes_agree (sorted_set (map blank_of later)) (λ c m. irreflexive nat_list_cmp_total b c (blanks_after c ((rising-same (map blank_of later) c).0 m))) in
       ap (map (hash_in (run ++ later))) (rising-run here) ∙ (λ i. first i ∷ rest i)
 
 -- one turn of the loop over the runs

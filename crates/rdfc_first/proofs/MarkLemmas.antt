@@ -9,7 +9,7 @@ use Rattle.std.proofs.lemmas.List.Folds.{list_any-append}
 use Rattle.base_types.proofs.Lists.{Contains-nil, Contains-here, Contains-cons_cases}
 use Rattle.nquads.specs.Terms.{Blank, Term, iri, literal, blank, Statement}
 use Rattle.nquads.specs.Renaming.{same_blank, blanks_of_term, blanks_of_graph, blanks_of}
-use Rattle.nquads.specs.Spelling.{blank_text, spelling, spelled}
+use Rattle.nquads.specs.Spelling.{blank_text, spelling, text_quad}
 use Rattle.nquads.specs.Lines.{term_text, graph_text, line}
 use Rattle.nquads.specs.FirstDegree.{mentions, about, mark}
 use Rattle.nquads.specs.declared.quads.TextQuad.{TextQuad}
@@ -79,7 +79,7 @@ marked_graph-spelling : (n : Blank) (g : Option Term) → marked_graph (blank_te
 marked_graph-spelling n None = refl
 marked_graph-spelling n (Some t) = ap (λ text. text ++ 32 ∷ []) (marked_part-spelling n t)
 
-pub marked_line-spelled : (n : Blank) (s : Statement) → marked_line (blank_text n) (spelled s) ≡ line (mark n) s
+pub marked_line-spelled : (n : Blank) (s : Statement) → marked_line (blank_text n) (text_quad s) ≡ line (mark n) s
 marked_line-spelled n s = rw (marked_part-spelling n s.subject, marked_part-spelling n s.object, marked_graph-spelling n s.graph) refl
 
 -- ---- the lines of a statement for one blank node
@@ -167,23 +167,23 @@ module _ (x : List ℕ) (quad : TextQuad) (named : is_blank x ≡ true) where
       ∙ ap (λ ls. ls ++ filter for_x (graph_lines quad quad.graph)) two
       ∙ graph_part quad.graph
 
-pub lines_for-seen : (n : Blank) (s : Statement) → lines_for (blank_text n) (seen (spelled s)) ≡ cond (mentions n s) (line (mark n) s ∷ []) []
+pub lines_for-seen : (n : Blank) (s : Statement) → lines_for (blank_text n) (seen (text_quad s)) ≡ cond (mentions n s) (line (mark n) s ∷ []) []
 lines_for-seen n s =
-    ap (map (λ (m : MarkedLine). m.line)) (seen-filter (blank_text n) (spelled s) refl ∙ ap (λ b. cond b (marked (spelled s) (blank_text n) ∷ []) []) (mentions_is n s))
+    ap (map (λ (m : MarkedLine). m.line)) (seen-filter (blank_text n) (text_quad s) refl ∙ ap (λ b. cond b (marked (text_quad s) (blank_text n) ∷ []) []) (mentions_is n s))
     ∙ go (mentions n s)
   where
-    go : (b : Bool) → map (λ (m : MarkedLine). m.line) (cond b (marked (spelled s) (blank_text n) ∷ []) []) ≡ cond b (line (mark n) s ∷ []) []
+    go : (b : Bool) → map (λ (m : MarkedLine). m.line) (cond b (marked (text_quad s) (blank_text n) ∷ []) []) ≡ cond b (line (mark n) s ∷ []) []
     go true = ap (λ l. l ∷ []) (marked_line-spelled n s)
     go false = refl
 
 -- ---- the lines of a dataset for one blank node
 
-pub lines_for-dataset : (n : Blank) (q : List Statement) → lines_for (blank_text n) (flat_map seen (map spelled q)) ≡ map (line (mark n)) (about q n)
+pub lines_for-dataset : (n : Blank) (q : List Statement) → lines_for (blank_text n) (flat_map seen (map text_quad q)) ≡ map (line (mark n)) (about q n)
 lines_for-dataset n [] = refl
 lines_for-dataset n (s ∷ q) =
     let p = λ (m : MarkedLine). bytes_eq m.blank (blank_text n) in
-    ap (map (λ (m : MarkedLine). m.line)) (filter-append p (seen (spelled s)) (flat_map seen (map spelled q)))
-    ∙ map-append (λ (m : MarkedLine). m.line) (filter p (seen (spelled s))) (filter p (flat_map seen (map spelled q)))
+    ap (map (λ (m : MarkedLine). m.line)) (filter-append p (seen (text_quad s)) (flat_map seen (map text_quad q)))
+    ∙ map-append (λ (m : MarkedLine). m.line) (filter p (seen (text_quad s))) (filter p (flat_map seen (map text_quad q)))
     ∙ (λ i. lines_for-seen n s i ++ lines_for-dataset n q i)
     ∙ go (mentions n s)
   where
@@ -209,20 +209,20 @@ part_blank (iri text) x e f = absurd (cc)
 part_blank (literal text datatype language) x e f = absurd (cc)
 part_blank (blank b) x e f = (b, Contains-here b [], f)
 
-graph_blank : (s : Statement) (g : Option Term) (m : MarkedLine) → Contains (graph_lines (spelled s) (option_map spelling g)) m → (n : Blank) × Contains (blanks_of_graph g) n × (m.blank ≡ blank_text n)
+graph_blank : (s : Statement) (g : Option Term) (m : MarkedLine) → Contains (graph_lines (text_quad s) (option_map spelling g)) m → (n : Blank) × Contains (blanks_of_graph g) n × (m.blank ≡ blank_text n)
 graph_blank s None m c = absurd (Contains-nil m c)
 graph_blank s (Some t) m c =
-    let at = from_line_at (spelled s) (spelling t) m (from_cond (bytes_eq (spelling s.subject) (spelling t) || bytes_eq (spelling s.object) (spelling t)) (line_at (spelled s) (spelling t)) m c) in
+    let at = from_line_at (text_quad s) (spelling t) m (from_cond (bytes_eq (spelling s.subject) (spelling t) || bytes_eq (spelling s.object) (spelling t)) (line_at (text_quad s) (spelling t)) m c) in
     part_blank t m.blank at.0 at.1
 
-pub seen_blank : (s : Statement) (m : MarkedLine) → Contains (seen (spelled s)) m → (n : Blank) × Contains (blanks_of s) n × (m.blank ≡ blank_text n)
+pub seen_blank : (s : Statement) (m : MarkedLine) → Contains (seen (text_quad s)) m → (n : Blank) × Contains (blanks_of s) n × (m.blank ≡ blank_text n)
 seen_blank s m c =
-    elim (Contains-append_cases (line_at (spelled s) (spelling s.subject)) (object_lines (spelled s) ++ graph_lines (spelled s) (option_map spelling s.graph)) m c) [
-      | inl d ↦ let at = from_line_at (spelled s) (spelling s.subject) m d in
+    elim (Contains-append_cases (line_at (text_quad s) (spelling s.subject)) (object_lines (text_quad s) ++ graph_lines (text_quad s) (option_map spelling s.graph)) m c) [
+      | inl d ↦ let at = from_line_at (text_quad s) (spelling s.subject) m d in
           let n = part_blank s.subject m.blank at.0 at.1 in
           (n.0, Contains-append_left (blanks_of_term s.subject) (blanks_of_term s.object ++ blanks_of_graph s.graph) n.0 n.1, n.2)
-      | inr d ↦ elim (Contains-append_cases (object_lines (spelled s)) (graph_lines (spelled s) (option_map spelling s.graph)) m d) [
-        | inl e ↦ let at = from_line_at (spelled s) (spelling s.object) m (from_cond (bytes_eq (spelling s.subject) (spelling s.object)) (line_at (spelled s) (spelling s.object)) m e) in
+      | inr d ↦ elim (Contains-append_cases (object_lines (text_quad s)) (graph_lines (text_quad s) (option_map spelling s.graph)) m d) [
+        | inl e ↦ let at = from_line_at (text_quad s) (spelling s.object) m (from_cond (bytes_eq (spelling s.subject) (spelling s.object)) (line_at (text_quad s) (spelling s.object)) m e) in
             let n = part_blank s.object m.blank at.0 at.1 in
             (n.0, Contains-append_right (blanks_of_term s.subject) (blanks_of_term s.object ++ blanks_of_graph s.graph) n.0 (Contains-append_left (blanks_of_term s.object) (blanks_of_graph s.graph) n.0 n.1), n.2)
         | inr e ↦ let n = graph_blank s s.graph m e in

@@ -1,7 +1,7 @@
 -- Marked lines by blank node.
 use Rattle.std.specs.Prelude.{◌≡◌, ℕ, suc, true, List, [], ◌∷◌, map, filter, bytes_eq, if◌then◌else◌}
 use Rattle.std.specs.List.{concat, AllByRecursion}
-use Rattle.base_types.specs.Order.{is_upto, rising}
+use Rattle.base_types.specs.Order.{is_upto, sorted_set}
 use Rattle.digest_mac.specs.Digests.{sha256_digits}
 use Rattle.nquads.specs.FirstDegree.{blank_hash}
 use Rattle.nquads.specs.declared.hashes.BlankHash.{BlankHash}
@@ -17,7 +17,7 @@ hash_in lines blank = blank_hash blank (sha256_digits (concat (lines_for blank l
 
 -- each blank node that has lines, with the digest of these
 abbrev pub hashed : List MarkedLine → List BlankHash
-hashed lines = map (hash_in lines) (rising (map (λ (m : MarkedLine). m.blank) lines))
+hashed lines = map (hash_in lines) (sorted_set (map (λ (m : MarkedLine). m.blank) lines))
 
 -- of two lines the first is of a blank node that comes before, or they are of one and in order
 pub record IsUptoLine (first second : MarkedLine) : Type 0 where

@@ -5,7 +5,7 @@ ghost use Rattle.std.specs.Cmp.Lexicographic.{slice_cmp};
 ghost use Rattle.std.specs.Ordering.{nat_cmp};
 ghost use Rattle.digest_mac.specs.Digests.{sha256_digits};
 ghost use Rattle.nquads.specs.Terms.{Statement};
-ghost use Rattle.nquads.specs.Spelling.{spelled};
+ghost use Rattle.nquads.specs.Spelling.{text_quad};
 ghost use Rattle.nquads.specs.FirstDegree.{AreFirstHashes, blank_hash};
 ghost use Rattle.rdfc_first.specs.Grouping.{InBlankOrder, hashed, run_of};
 
@@ -22,7 +22,7 @@ use std::alloc::Global;
 ///
 /// `Memory`: there is no memory for the lines or the hashes.
 pub fn first_hashes(alloc: Global, quads: &TextQuads) -> Result<Vec<BlankHash>, Memory>
-    ensures exact { (q : List Statement) → quads.now ≡ map spelled q
+    ensures exact { (q : List Statement) → quads.now ≡ map text_quad q
         → IfOk result (λ hashes. AreFirstHashes sha256_digits q hashes.items) }
     ensures order { IfOk result (λ hashes. IsStrictlySortedBy (slice_cmp nat_cmp) (map (λ h. h.blank) hashes.items)) }
 {

@@ -5,7 +5,7 @@ use Rattle.std.proofs.lemmas.List.Folds.{list_any-append}
 use Rattle.std.proofs.lemmas.List.Elements.{Contains-append_left, Contains-append_right, Contains-append_cases}
 use Rattle.std.proofs.lemmas.Slice.Eq.{bytes_eq-Decides}
 use Rattle.std.specs.List.{AllZip, flat_map}
-use Rattle.base_types.specs.Order.{rising}
+use Rattle.base_types.specs.Order.{sorted_set}
 use Rattle.base_types.specs.Sets.{AllDiffer}
 use Rattle.base_types.proofs.Lists.{Contains-here, Contains-there, Contains-cons_cases, Contains-nil, Contains-map, Contains-from_map}
 use Rattle.base_types.proofs.Rising.{rising-same}
@@ -200,10 +200,10 @@ member-group_of {B} hs h k =
 
 pub grouped-member : {B : Type 0} (hs : List (Hashed B)) (g : Group B) (m : B) → Contains (grouped hs) g → Contains g.members m → IsHashed hs g.hash m
 grouped-member {B} hs g m k l =
-    let found = Contains-from_map (group_of hs) (rising (map (λ (h : Hashed B). h.hash) hs)) g k in
+    let found = Contains-from_map (group_of hs) (sorted_set (map (λ (h : Hashed B). h.hash) hs)) g k in
     subst (λ (z : Group B). IsHashed hs z.hash m) found.2 (group_of-member hs found.0 m (subst (λ (z : Group B). Contains z.members m) (sym found.2) l))
 
 -- each hash has its group
 pub grouped-has : {B : Type 0} (hs : List (Hashed B)) (h : Hashed B) → Contains hs h → Contains (grouped hs) (group_of hs h.hash)
 grouped-has {B} hs h k =
-    Contains-map (group_of hs) (rising (map (λ (g : Hashed B). g.hash) hs)) h.hash ((rising-same (map (λ (g : Hashed B). g.hash) hs) h.hash).1 (Contains-map (λ (g : Hashed B). g.hash) hs h k))
+    Contains-map (group_of hs) (sorted_set (map (λ (g : Hashed B). g.hash) hs)) h.hash ((rising-same (map (λ (g : Hashed B). g.hash) hs) h.hash).1 (Contains-map (λ (g : Hashed B). g.hash) hs h k))

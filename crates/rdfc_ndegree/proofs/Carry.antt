@@ -5,7 +5,7 @@ use Rattle.std.specs.List.Sorted.{IsPermutation}
 use Rattle.std.proofs.lemmas.List.{map-append}
 use Rattle.std.proofs.lemmas.List.Elements.{All-map, All-weaker, recursion_from_All}
 use Rattle.std.proofs.lemmas.List.Sorted.{IsPermutation-sym, IsPermutation-trans, IsPermutation-map, All-permutation}
-use Rattle.base_types.specs.Order.{rising, is_upto}
+use Rattle.base_types.specs.Order.{sorted_set, is_upto}
 use Rattle.base_types.proofs.Lists.{Contains-map, Contains-from_map, AllByRecursion-contains}
 use Rattle.base_types.proofs.Rising.{rising-free}
 use Rattle.nquads.proofs.ReadingElements.{AllDiffer-map}
@@ -76,7 +76,7 @@ module _ {A B : Type 0} (f : A → B) (Dom : A → Type 0) where
   each_group [] hs ks d p = tt
   each_group (r ∷ rs) hs ks d p = (one_group r hs ks d p, each_group rs hs ks d p)
 
-  same_hashes : (hs : List (Hashed A)) (ks : List (Hashed B)) → IsPermutation (map (hashed_f f) hs) ks → rising (map (λ h. h.hash) ks) ≡ rising (map (λ h. h.hash) hs)
+  same_hashes : (hs : List (Hashed A)) (ks : List (Hashed B)) → IsPermutation (map (hashed_f f) hs) ks → sorted_set (map (λ h. h.hash) ks) ≡ sorted_set (map (λ h. h.hash) hs)
   same_hashes hs ks p =
       let moved : IsPermutation (map (λ h. h.hash) hs) (map (λ h. h.hash) ks) =
       subst (λ l. IsPermutation l (map (λ h. h.hash) ks)) (map-map (λ (h : Hashed B). h.hash) (hashed_f f) hs) (IsPermutation-map (λ h. h.hash) (map (hashed_f f) hs) ks p) in
@@ -84,7 +84,7 @@ module _ {A B : Type 0} (f : A → B) (Dom : A → Type 0) where
 
   pub grouped-carried : (hs : List (Hashed A)) (ks : List (Hashed B)) → AllByRecursion (λ (h : Hashed A). Dom h.node) hs → IsPermutation (map (hashed_f f) hs) ks → AllZip (SameGroup f Dom) (grouped hs) (grouped ks)
   grouped-carried hs ks d p =
-      subst (λ rs. AllZip (SameGroup f Dom) (grouped hs) (map (group_of ks) rs)) (sym (same_hashes hs ks p)) (each_group (rising (map (λ h. h.hash) hs)) hs ks d p)
+      subst (λ rs. AllZip (SameGroup f Dom) (grouped hs) (map (group_of ks) rs)) (sym (same_hashes hs ks p)) (each_group (sorted_set (map (λ h. h.hash) hs)) hs ks d p)
 
 -- ---- what a choice keeps
 

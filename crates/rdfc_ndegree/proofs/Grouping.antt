@@ -10,7 +10,7 @@ use Rattle.std.specs.declared.cmp.Ordering.TheVariants.{Less}
 use Rattle.std.proofs.lemmas.Map.Lookups.{exact_bytes}
 use Rattle.std.proofs.lemmas.List.{map-append, get_or-take, length-take-le}
 use Rattle.std.proofs.lemmas.List.Sorted.{IsPermutation-to_front, IsPermutation-sym, IsPermutation-map, Contains-permutation, sorted_far, ranks_by}
-use Rattle.base_types.specs.Order.{is_upto, put_once, rising}
+use Rattle.base_types.specs.Order.{is_upto, put_once, sorted_set}
 use Rattle.base_types.specs.Sets.{SameElements}
 use Rattle.base_types.proofs.Lists.{Contains-here, Contains-there, Contains-cons_cases, Contains-nil, AllByRecursion-contains}
 use Rattle.base_types.proofs.Orders.{text_cmp, is_upto-cmp, bytes_eq-cmp, by_cmp}
@@ -137,10 +137,10 @@ module _ {B : Type 0} where
   grouped-push done h all =
       let ts = hashes done in
       let same : SameElements (ts ++ h.hash ∷ []) (h.hash ∷ ts) = λ t. (Contains-permutation (ts ++ h.hash ∷ []) (h.hash ∷ ts) t (IsPermutation-to_front ts h.hash), Contains-permutation (h.hash ∷ ts) (ts ++ h.hash ∷ []) t (IsPermutation-sym _ _ (IsPermutation-to_front ts h.hash))) in
-      let order : rising (hashes (done ++ h ∷ [])) ≡ put_once h.hash (rising ts) = ap rising (map-append (λ k. k.hash) done (h ∷ [])) ∙ rising-free (ts ++ h.hash ∷ []) (h.hash ∷ ts) same in
-      let below : AllByRecursion (λ t. is_upto t h.hash ≡ true) (rising ts) = Each-from_contains (λ t. is_upto t h.hash ≡ true) (rising ts) (λ t c. AllByRecursion-contains (λ u. is_upto u h.hash ≡ true) ts t (all-upto done h.hash all) ((rising-same ts t).0 c)) in
-      let fresh : Contains (rising ts) h.hash ⊎ (with_hash h.hash done ≡ []) = ⊎_elim (λ c. inl ((rising-same ts h.hash).1 c)) (λ n. inr n) (hash-there done h.hash) in
-      added-each done h (rising ts) (rising-rises ts) below fresh ∙ ap (map (group_of (done ++ h ∷ []))) (sym order)
+      let order : sorted_set (hashes (done ++ h ∷ [])) ≡ put_once h.hash (sorted_set ts) = ap sorted_set (map-append (λ k. k.hash) done (h ∷ [])) ∙ rising-free (ts ++ h.hash ∷ []) (h.hash ∷ ts) same in
+      let below : AllByRecursion (λ t. is_upto t h.hash ≡ true) (sorted_set ts) = Each-from_contains (λ t. is_upto t h.hash ≡ true) (sorted_set ts) (λ t c. AllByRecursion-contains (λ u. is_upto u h.hash ≡ true) ts t (all-upto done h.hash all) ((rising-same ts t).0 c)) in
+      let fresh : Contains (sorted_set ts) h.hash ⊎ (with_hash h.hash done ≡ []) = ⊎_elim (λ c. inl ((rising-same ts h.hash).1 c)) (λ n. inr n) (hash-there done h.hash) in
+      added-each done h (sorted_set ts) (rising-rises ts) below fresh ∙ ap (map (group_of (done ++ h ∷ []))) (sym order)
 
   -- ---- lists with the same nodes under each hash
 
@@ -149,7 +149,7 @@ module _ {B : Type 0} where
   map-alike xs ys (t ∷ ts) same = let rest = map-alike xs ys ts same in λ i. record { hash = t; members = map (λ k. k.node) (same t i) } ∷ rest i
 
   pub grouped-alike : (xs ys : List (Hashed B)) → SameElements (hashes xs) (hashes ys) → ((t : List ℕ) → with_hash t xs ≡ with_hash t ys) → grouped xs ≡ grouped ys
-  grouped-alike xs ys same each = ap (map (group_of xs)) (rising-free (hashes xs) (hashes ys) same) ∙ map-alike xs ys (rising (hashes ys)) each
+  grouped-alike xs ys same each = ap (map (group_of xs)) (rising-free (hashes xs) (hashes ys) same) ∙ map-alike xs ys (sorted_set (hashes ys)) each
 
   -- ---- whatever holds of all nodes holds of all members
 
@@ -162,7 +162,7 @@ module _ {B : Type 0} where
   groups-all P hs (t ∷ ts) all = (members-all P (λ h. bytes_eq h.hash t) hs all, groups-all P hs ts all)
 
   pub grouped-all : (P : B → Type 0) (hs : List (Hashed B)) → AllByRecursion (λ (h : Hashed B). P h.node) hs → AllByRecursion (λ (g : Group B). AllByRecursion P g.members) (grouped hs)
-  grouped-all P hs all = groups-all P hs (rising (hashes hs)) all
+  grouped-all P hs all = groups-all P hs (sorted_set (hashes hs)) all
 
 -- ---- what a stable sort leaves
 

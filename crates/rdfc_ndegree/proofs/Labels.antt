@@ -6,7 +6,7 @@ use Rattle.std.specs.Cmp.Lexicographic.{nat_list_cmp_total}
 use Rattle.std.proofs.lemmas.Bool.{false≢true, cond_both, or_left}
 use Rattle.std.proofs.lemmas.List.Elements.{Contains-append_cases}
 use Rattle.std.proofs.lemmas.List.Sorted.{IsPermutation-sym, Contains-permutation}
-use Rattle.base_types.specs.Order.{rising}
+use Rattle.base_types.specs.Order.{sorted_set}
 use Rattle.base_types.specs.Sets.{AllDiffer}
 use Rattle.base_types.proofs.Lists.{Contains-here, Contains-there, Contains-cons_cases, Contains-nil, Contains-map, Contains-from_map, AllDiffer-strictly_sorted}
 use Rattle.base_types.proofs.Rising.{rising-rises}
@@ -198,8 +198,8 @@ module _ {B : Type 0} (v : Nodes B) where
 
   pub alone-differ : AllDiffer (alone (first_groups v))
   alone-differ =
-      alone_differ (rising (map (λ (h : Hashed B). h.hash) (map (hashed_first v) v.all)))
-      (AllDiffer-strictly_sorted nat_list_cmp_total (rising (map (λ (h : Hashed B). h.hash) (map (hashed_first v) v.all))) (rising-rises (map (λ (h : Hashed B). h.hash) (map (hashed_first v) v.all))))
+      alone_differ (sorted_set (map (λ (h : Hashed B). h.hash) (map (hashed_first v) v.all)))
+      (AllDiffer-strictly_sorted nat_list_cmp_total (sorted_set (map (λ (h : Hashed B). h.hash) (map (hashed_first v) v.all))) (rising-rises (map (λ (h : Hashed B). h.hash) (map (hashed_first v) v.all))))
 
   pub alone-listed : AreListed v (alone (first_groups v))
   alone-listed x k = let found = alone-member (first_groups v) x k in first_groups-listed v found.0 found.1 x found.2

@@ -5,7 +5,7 @@ use Rattle.std.specs.List.Sorted.{IsPermutation}
 use Rattle.std.proofs.lemmas.Bool.Decides.{same_from_decides}
 use Rattle.std.proofs.lemmas.List.{map-append}
 use Rattle.std.proofs.lemmas.List.Sorted.{IsPermutation-sym, IsPermutation-map, Contains-permutation}
-use Rattle.base_types.specs.Order.{rising}
+use Rattle.base_types.specs.Order.{sorted_set}
 use Rattle.base_types.proofs.Lists.{Contains-here, Contains-there, Contains-cons_cases, Contains-nil, Contains-map, Contains-from_map, AllByRecursion-contains}
 use Rattle.base_types.proofs.Orders.{in_order-free}
 use Rattle.nquads.specs.Terms.{Blank, Term, iri, literal, blank, Statement, IsDataset}
@@ -56,7 +56,7 @@ in_place q = Each-from_contains (InPlace q) q (λ s m. Each-from_contains (Stand
 
 pub text-agree : (f g : Blank → List ℕ) (q : List Statement) → ((b : Blank) → StandsIn q b → f b ≡ g b) → canonical_text f q ≡ canonical_text g q
 text-agree f g q h =
-    ap (λ (ls : List (List ℕ)). concat (rising ls))
+    ap (λ (ls : List (List ℕ)). concat (sorted_set ls))
     (map-agree (InPlace q) (line f) (line g) (λ s p. line-agree f g s (Each-weaker (StandsIn q) (λ b. f b ≡ g b) h (blanks_of s) p)) q (in_place q))
 
 -- ---- one statement

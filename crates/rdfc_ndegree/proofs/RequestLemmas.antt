@@ -9,7 +9,7 @@ use Rattle.base_types.specs.Sets.{AllDiffer}
 use Rattle.base_types.proofs.Lists.{Contains-nil, Contains-here, Contains-there, Contains-cons_cases}
 use Rattle.digest_mac.specs.Digests.{sha256_digits}
 use Rattle.nquads.specs.Terms.{Blank, Statement}
-use Rattle.nquads.specs.Spelling.{blank_text, spelled}
+use Rattle.nquads.specs.Spelling.{blank_text, text_quad}
 use Rattle.nquads.specs.declared.hashes.BlankHash.{BlankHash}
 use Rattle.nquads.specs.declared.quads.TextQuad.{TextQuad}
 use Rattle.nquads.specs.FirstDegree.{AreFirstHashes}
@@ -177,12 +177,12 @@ carried_call q n c i firsts rows canonical node number issuer canonical_texts is
 -- ---- the steps of the call, one after another
 
 pub record Steps (quads : List TextQuad) (firsts : List BlankHash) (canonical : List (List ℕ)) (node : List ℕ) (issuer : List (List ℕ)) (rows : List NodeRow) (named : List ℕ) (number : ℕ) (begun : List ℕ) : Type 0 where
-  pub table : (q : List Statement) (cs : List Blank) → quads ≡ map spelled q → AreFirstHashes sha256_digits q firsts → canonical ++ (issuer ++ node ∷ []) ≡ map blank_text cs → IsTableWith q firsts cs rows
+  pub table : (q : List Statement) (cs : List Blank) → quads ≡ map text_quad q → AreFirstHashes sha256_digits q firsts → canonical ++ (issuer ++ node ∷ []) ≡ map blank_text cs → IsTableWith q firsts cs rows
   pub named_is : named ≡ issued [] (filter_map (number_among (names_of rows)) canonical)
   pub begun_is : begun ≡ filter_map (number_among (names_of rows)) issuer
   pub number_is : number_among (names_of rows) node ≡ Some number
 
-pub steps : {quads : List TextQuad} {firsts : List BlankHash} {canonical : List (List ℕ)} {node : List ℕ} {issuer : List (List ℕ)} {first second : List (List ℕ)} {text : List ℕ} {rows : List NodeRow} {named : List ℕ} {number : ℕ} {begun : List ℕ} → first ≡ canonical → second ≡ issuer → ((q : List Statement) (cs : List Blank) → quads ≡ map spelled q → AreFirstHashes sha256_digits q firsts → first ++ (second ++ node ∷ []) ≡ map blank_text cs → IsTableWith q firsts cs rows) → named ≡ issued [] (filter_map (number_among (names_of rows)) first) → begun ≡ filter_map (number_among (names_of rows)) second → text ≡ node → Some number ≡ number_among (names_of rows) text → Steps quads firsts canonical node issuer rows named number begun
+pub steps : {quads : List TextQuad} {firsts : List BlankHash} {canonical : List (List ℕ)} {node : List ℕ} {issuer : List (List ℕ)} {first second : List (List ℕ)} {text : List ℕ} {rows : List NodeRow} {named : List ℕ} {number : ℕ} {begun : List ℕ} → first ≡ canonical → second ≡ issuer → ((q : List Statement) (cs : List Blank) → quads ≡ map text_quad q → AreFirstHashes sha256_digits q firsts → first ++ (second ++ node ∷ []) ≡ map blank_text cs → IsTableWith q firsts cs rows) → named ≡ issued [] (filter_map (number_among (names_of rows)) first) → begun ≡ filter_map (number_among (names_of rows)) second → text ≡ node → Some number ≡ number_among (names_of rows) text → Steps quads firsts canonical node issuer rows named number begun
 steps {node = node} {rows = rows} a b table named_is begun_is g number_is = record {
   table = λ q cs is are all. table q cs is are ((λ j. a j ++ (b j ++ node ∷ [])) ∙ all);
   named_is = named_is ∙ ap (λ ts. issued [] (filter_map (number_among (names_of rows)) ts)) a;

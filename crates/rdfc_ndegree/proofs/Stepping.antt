@@ -11,7 +11,7 @@ use Rattle.std.proofs.lemmas.List.{reverse-append}
 use Rattle.std.proofs.lemmas.List.Sums.{sum_by-cons}
 use Rattle.std.proofs.lemmas.List.Kept.{IsStrictlySortedBy-filter}
 use Rattle.std.proofs.lemmas.List.Sorted.{IsPermutation-refl, IsPermutation-sym, IsPermutation-trans, IsPermutation-cons, IsPermutation-middle, IsPermutation-reverse, sum_by-IsPermutation, IsNonDecreasingBy-from_sort}
-use Rattle.base_types.specs.Order.{is_upto, rising}
+use Rattle.base_types.specs.Order.{is_upto, sorted_set}
 use Rattle.base_types.specs.Sets.{SameElements}
 use Rattle.base_types.proofs.Lists.{Contains-here, Contains-there, Contains-cons_cases, Contains-nil, Contains-map, Contains-from_map, strictly_sorted-unique, AllDiffer-strictly_sorted}
 use Rattle.base_types.proofs.Orders.{text_cmp, is_upto-cmp, by_cmp, is_upto-refl, is_upto-antisymmetric, is_upto-transitive}
@@ -306,20 +306,20 @@ module _ (x : ℕ) (us : List ℕ) (y : ℕ) (vs : List ℕ) (down : Falls (us +
 -- ---- those that are left
 
 sequences : List ℕ → List (List ℕ)
-sequences p = rising (orders_of p)
+sequences p = sorted_set (orders_of p)
 
 sequences-exact : (p q : List ℕ) → Contains (sequences p) q ↔ IsPermutation p q
 unfolding sequences
 sequences-exact p q = (λ c. (orders-exact p q).0 ((rising-same (orders_of p) q).0 c), λ m. (rising-same (orders_of p) q).1 ((orders-exact p q).1 m))
 
-left-sorted : (p q : List ℕ) → IsStrictlySortedBy text_cmp (filter (is_upto p) (rising (orders_of q)))
-left-sorted p q = IsStrictlySortedBy-filter text_cmp (is_upto p) (rising (orders_of q)) (rising-rises (orders_of q))
+left-sorted : (p q : List ℕ) → IsStrictlySortedBy text_cmp (filter (is_upto p) (sorted_set (orders_of q)))
+left-sorted p q = IsStrictlySortedBy-filter text_cmp (is_upto p) (sorted_set (orders_of q)) (rising-rises (orders_of q))
 
 left-exact : (p q : List ℕ) → Contains (left_from false p) q ↔ (IsPermutation p q × (is_upto p q ≡ true))
 unfolding sequences
 left-exact p q = (
-  λ c. let f = Contains-from_filter (is_upto p) (rising (orders_of p)) q c in ((sequences-exact p q).0 f.0, f.1),
-  λ m. Contains-filter (is_upto p) (rising (orders_of p)) q ((sequences-exact p q).1 m.0) m.1,
+  λ c. let f = Contains-from_filter (is_upto p) (sorted_set (orders_of p)) q c in ((sequences-exact p q).0 f.0, f.1),
+  λ m. Contains-filter (is_upto p) (sorted_set (orders_of p)) q ((sequences-exact p q).1 m.0) m.1,
 )
 
 not-back : (t u : List ℕ) → is_upto u t ≡ false → text_cmp t u ≡ Less

@@ -15,7 +15,7 @@ use Rattle.base_types.proofs.Lists.{Contains-nil, Contains-here, Contains-there,
 use Rattle.digest_mac.specs.Digests.{sha256_digits}
 use Rattle.nquads.specs.Terms.{Blank, Term, iri, literal, blank, Statement}
 use Rattle.nquads.specs.Renaming.{same_blank, blanks_of_term, blanks_of_graph, blanks_of, StandsIn}
-use Rattle.nquads.specs.Spelling.{blank_text, spelling, spelled, iri_text}
+use Rattle.nquads.specs.Spelling.{blank_text, spelling, text_quad, iri_text}
 use Rattle.nquads.specs.Lines.{line}
 use Rattle.nquads.specs.FirstDegree.{mentions, about, mark, first_degree_hash, blank_hash, AreFirstHashes}
 use Rattle.nquads.specs.declared.hashes.BlankHash.{BlankHash}
@@ -228,7 +228,7 @@ module _ (bs : List Blank) (differ : AllDiffer bs) (k : ℕ) (b : Blank) (at_k :
   within_graph s h c m = h c (Contains-append_right (blanks_of_term s.subject) (blanks_of_term s.object ++ blanks_of_graph s.graph) c (Contains-append_right (blanks_of_term s.object) (blanks_of_graph s.graph) c m))
 
   abbrev numbers : Statement → Parts
-  numbers s = parts_of (map blank_text bs) (spelled s)
+  numbers s = parts_of (map blank_text bs) (text_quad s)
 
   stands-mentions : (s : Statement) → InBlanks (blanks_of s) → stands k (numbers s) ≡ mentions b s
   unfolding stands
@@ -416,11 +416,11 @@ zip-find R (w ∷ xs) (y ∷ ys) (suc k) x z e = zip-find R xs ys k x z.1 e
 
 -- ---- the table
 
-built_table : (q : List Statement) (firsts : List BlankHash) (cs : List Blank) (rows : List NodeRow) → IsState q firsts cs rows → ((u : Blank) → Contains cs u → Contains (names_of rows) (blank_text u)) → IsTableWith q firsts cs (related_all rows (map (parts_of (names_of rows)) (map spelled q)))
+built_table : (q : List Statement) (firsts : List BlankHash) (cs : List Blank) (rows : List NodeRow) → IsState q firsts cs rows → ((u : Blank) → Contains cs u → Contains (names_of rows) (blank_text u)) → IsTableWith q firsts cs (related_all rows (map (parts_of (names_of rows)) (map text_quad q)))
 built_table q firsts cs rows s there =
     let d = drawn q firsts cs rows s.good in
     let bs = d.nodes in
-    let ps = map (parts_of (names_of rows)) (map spelled q) in
+    let ps = map (parts_of (names_of rows)) (map text_quad q) in
     let differ : AllDiffer bs = differ-from_map blank_text bs (subst AllDiffer d.names s.differ) in
     let covers : (b : Blank) → StandsIn q b → Contains bs b = λ b stands. named_there bs b (subst (λ ns. Contains ns (blank_text b)) d.names (s.covers b stands)) in
     let within : (t : Statement) → Contains q t → (c : Blank) → Contains (blanks_of t) c → Contains bs c = λ t m c n. covers c (to_blanks_in q t c m n) in
@@ -433,7 +433,7 @@ built_table q firsts cs rows s there =
         each = zip-build (IsRowOf q bs) bs (related_all rows ps) long (λ k b at_k.
             let found = zip-find (λ b row. row ≡ bare q firsts cs b) bs rows k b d.zip at_k in
             let last : slice_get (related_all rows ps) k ≡ Some (more found.0 (flat_map (given k) ps)) = gets-all rows ps k ∙ ap (option_map (λ (r : NodeRow). more r (flat_map (given k) ps))) found.1 in
-            let numbered : ps ≡ map (λ t. parts_of (map blank_text bs) (spelled t)) q = ap (λ ns. map (parts_of ns) (map spelled q)) d.names ∙ map-map (parts_of (map blank_text bs)) spelled q in
+            let numbered : ps ≡ map (λ t. parts_of (map blank_text bs) (text_quad t)) q = ap (λ ns. map (parts_of ns) (map text_quad q)) d.names ∙ map-map (parts_of (map blank_text bs)) text_quad q in
             let links : AllZip (IsOccurrence bs) (map occurrence_of (flat_map (given k) ps)) (related_in q b) = subst (λ ps. AllZip (IsOccurrence bs) (map occurrence_of (flat_map (given k) ps)) (related_in q b)) (sym numbered) (dataset_links bs differ k b at_k q within) in
             let row : IsRowOf q bs b (more (bare q firsts cs b) (flat_map (given k) ps)) = record { name = refl; first = refl; related = links } in
             (more found.0 (flat_map (given k) ps), last, subst (λ r. IsRowOf q bs b (more r (flat_map (given k) ps))) (sym found.2) row));
@@ -444,7 +444,7 @@ built_table q firsts cs rows s there =
       order = names-all rows ps ∙ s.order;
     }
 
-pub built-with : (q : List Statement) (cs : List Blank) (quads : List TextQuad) (firsts : List BlankHash) (others : List (List ℕ)) → quads ≡ map spelled q → AreFirstHashes sha256_digits q firsts → others ≡ map blank_text cs → IsTableWith q firsts cs (built quads firsts others)
+pub built-with : (q : List Statement) (cs : List Blank) (quads : List TextQuad) (firsts : List BlankHash) (others : List (List ℕ)) → quads ≡ map text_quad q → AreFirstHashes sha256_digits q firsts → others ≡ map blank_text cs → IsTableWith q firsts cs (built quads firsts others)
 built-with q cs quads firsts others is are other =
     let rows = with_rows (with_rows [] firsts) (map unknown (map blank_text cs)) in
     let state = all_more q firsts cs (with_rows [] firsts) cs (firsts_state q firsts cs are) (λ u m. m) in

@@ -1,6 +1,6 @@
 -- Related hashes, and nodes grouped by hash. RDF Canonicalization, 4.7, Hash Related Blank Node, and 4.8.3, steps 1 to 3.
 use Rattle.std.specs.Prelude.{ℕ, List, [], ◌∷◌, ◌++◌, map, filter, bytes_eq, if◌then◌else◌}
-use Rattle.base_types.specs.Order.{rising}
+use Rattle.base_types.specs.Order.{sorted_set}
 use Rattle.rdfc_ndegree.specs.Nodes.{Position, as_subject, as_object, as_graph, Occurrence, Nodes}
 use Rattle.rdfc_ndegree.specs.Issuers.{has, canonical_id, temporary_id}
 
@@ -35,7 +35,7 @@ group_of hs hash = record { hash = hash; members = map (λ h. h.node) (filter (�
 
 -- nodes grouped by hash, the groups in hash order
 abbrev pub grouped : {B : Type 0} → List (Hashed B) → List (Group B)
-grouped hs = map (group_of hs) (rising (map (λ h. h.hash) hs))
+grouped hs = map (group_of hs) (sorted_set (map (λ h. h.hash) hs))
 
 -- an occurrence's node with the related hash
 abbrev pub hashed_related : {B : Type 0} → Nodes B → List B → List B → Occurrence B → Hashed B

@@ -5,7 +5,7 @@ use Rattle.std.specs.Option.{option_map}
 use Rattle.base_types.specs.Sets.{AllDiffer}
 use Rattle.digest_mac.specs.Digests.{sha256_digits}
 use Rattle.nquads.specs.Terms.{Blank, Statement}
-use Rattle.nquads.specs.Spelling.{blank_text, spelled}
+use Rattle.nquads.specs.Spelling.{blank_text, text_quad}
 use Rattle.nquads.specs.FirstDegree.{AreFirstHashes}
 use Rattle.nquads.specs.declared.quads.TextQuad.{TextQuad}
 use Rattle.nquads.specs.declared.hashes.BlankHash.{BlankHash}
@@ -13,7 +13,7 @@ use Rattle.rdfc_ndegree.specs.declared.table.NodeRow.{NodeRow}
 
 -- The texts are those of a call for the node n over the dataset q, with the canonical issuer c and the issuer i.
 pub record IsSpelledCall (q : List Statement) (n : Blank) (c i : List Blank) (quads : List TextQuad) (firsts : List BlankHash) (canonical : List (List ℕ)) (node : List ℕ) (issuer : List (List ℕ)) : Type 0 where
-  pub quads_are : quads ≡ map spelled q
+  pub quads_are : quads ≡ map text_quad q
   pub hashes : AreFirstHashes sha256_digits q firsts
   pub node_is : node ≡ blank_text n
   pub canonical_is : canonical ≡ map blank_text c

@@ -1,7 +1,7 @@
 -- The sequences of a list's numbers in lexicographic order, and the step from one to the next.
 use Rattle.std.specs.Prelude.{◌≡◌, ◌<◌, ◌≤◌, ◌+◌, ◌++◌, ℕ, List, [], ◌∷◌, Bool, true, false, Option, Some, None, map, filter, flat_map, length, reverse, slice_index, drop}
 use Rattle.std.specs.List.{AllByRecursion}
-use Rattle.base_types.specs.Order.{is_upto, rising}
+use Rattle.base_types.specs.Order.{is_upto, sorted_set}
 
 -- x at each place of the list in turn
 abbrev pub put_everywhere : ℕ → List ℕ → List (List ℕ)
@@ -16,7 +16,7 @@ orders_of (x ∷ xs) = flat_map (put_everywhere x) (orders_of xs)
 -- the distinct sequences of the numbers of p from p on, in lexicographic order; none where all are over
 abbrev pub left_from : Bool → List ℕ → List (List ℕ)
 left_from true p = []
-left_from false p = filter (is_upto p) (rising (orders_of p))
+left_from false p = filter (is_upto p) (sorted_set (orders_of p))
 
 -- each number is at least every later one
 abbrev pub Falls : List ℕ → Type 0

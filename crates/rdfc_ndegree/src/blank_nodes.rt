@@ -3,7 +3,7 @@ ghost use Rattle.std.specs.Prelude.{◌≡◌, ◌≤◌, ◌++◌, ◌∷◌, �
 ghost use Rattle.std.specs.List.{filter_map};
 ghost use Rattle.digest_mac.specs.Digests.{sha256_digits};
 ghost use Rattle.nquads.specs.Terms.{Blank, Statement};
-ghost use Rattle.nquads.specs.Spelling.{blank_text, spelled};
+ghost use Rattle.nquads.specs.Spelling.{blank_text, text_quad};
 ghost use Rattle.nquads.specs.FirstDegree.{AreFirstHashes};
 ghost use Rattle.rdfc_ndegree.specs.TableOf.{IsTableWith};
 ghost use Rattle.rdfc_ndegree.specs.declared.limits.CanonFault.{CanonFault};
@@ -98,7 +98,7 @@ fn number_all(
     issuer: &[Text],
     node: &Text,
 ) -> Result<Numbered, Memory>
-    ensures table { (q : List Statement) (cs : List Blank) → quads.now ≡ map spelled q
+    ensures table { (q : List Statement) (cs : List Blank) → quads.now ≡ map text_quad q
         → AreFirstHashes sha256_digits q firsts.now → canonical.now ++ (issuer.now ++ node.now ∷ []) ≡ map blank_text cs
         → IfOk result (λ r. IsTableWith q firsts.now cs r.table) }
     ensures node { IfOk result (λ r. Contains (names_of r.table) node.now) }

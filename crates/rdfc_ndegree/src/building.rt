@@ -1,7 +1,7 @@
 ghost use Rattle.std.specs.Prelude.{◌≡◌, List, map, All, IfOk, OnOk, Contains};
 ghost use Rattle.digest_mac.specs.Digests.{sha256_digits};
 ghost use Rattle.nquads.specs.Terms.{Blank, Statement};
-ghost use Rattle.nquads.specs.Spelling.{blank_text, spelled};
+ghost use Rattle.nquads.specs.Spelling.{blank_text, text_quad};
 ghost use Rattle.nquads.specs.FirstDegree.{AreFirstHashes, blank_hash};
 ghost use Rattle.rdfc_ndegree.specs.Building.{link, links_at, names_of, node_related, graph_related, object_related, parts_of, relate, related_all, related_at, unknown, with_row, with_rows};
 ghost use Rattle.rdfc_ndegree.specs.TableOf.{IsTableWith};
@@ -35,7 +35,7 @@ pub fn node_table(
     firsts: &[BlankHash],
     others: &[Text],
 ) -> Result<NodeTable, Memory>
-    ensures table { (q : List Statement) (cs : List Blank) → quads.now ≡ map spelled q
+    ensures table { (q : List Statement) (cs : List Blank) → quads.now ≡ map text_quad q
         → AreFirstHashes sha256_digits q firsts.now → others.now ≡ map blank_text cs
         → IfOk result (λ table. IsTableWith q firsts.now cs table) }
     ensures named { IfOk result (λ table. All (Contains (names_of table)) others.now) }

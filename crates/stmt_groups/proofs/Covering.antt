@@ -7,41 +7,41 @@ use Rattle.base_types.proofs.Lists.{Contains-here, Contains-nil, Contains-cons_c
 use Rattle.nquads.proofs.ReadingElements.{AllDiffer-nil, AllDiffer-cons, All-from_contains}
 use Rattle.stmt_groups.specs.declared.types.BaseRecord.{BaseRecord}
 use Rattle.stmt_groups.specs.Lines.{lines_at, other_lines}
-use Rattle.stmt_groups.specs.Records.{Signing, signing, signed, signed_by, base_bytes, HasLines}
-use Rattle.stmt_groups.specs.Proofs.{Shown}
+use Rattle.stmt_groups.specs.Records.{Signing, signing, history_signings, record_signings, sign_data, HasLines}
+use Rattle.stmt_groups.specs.Proofs.{DerivedProof}
 use Rattle.stmt_groups.specs.Soundness.{IsCovered}
 
-module _ (r : BaseRecord) (shown : Shown) (options lines : List (List ℕ)) (key : shown.key ≡ r.key) (mandatory : lines_at shown.indexes lines ≡ r.mandatory) (others : All (Contains r.others) (other_lines shown.indexes lines)) (same : options ≡ r.options) where
+module _ (r : BaseRecord) (shown : DerivedProof) (options lines : List (List ℕ)) (key : shown.key ≡ r.key) (mandatory : lines_at shown.indexes lines ≡ r.mandatory) (others : All (Contains r.others) (other_lines shown.indexes lines)) (same : options ≡ r.options) where
   only_one : (s : BaseRecord) → Contains (r ∷ []) s → s ≡ r
   only_one s c = elim (Contains-cons_cases r [] s c) [
     | inl e ↦ sym e
     | inr d ↦ absurd (Contains-nil s d)
   ]
 
-  in_all : (x : Signing) → Contains (signed_by r) x → Contains (signed (r ∷ [])) x
-  in_all x c = Contains-append_left (signed_by r) [] x c
+  in_all : (x : Signing) → Contains (record_signings r) x → Contains (history_signings (r ∷ [])) x
+  in_all x c = Contains-append_left (record_signings r) [] x c
 
   abbrev base : Signing
-  base = signing r.issuer (base_bytes r.options r.key r.mandatory)
+  base = signing r.issuer (sign_data r.options r.key r.mandatory)
 
-  base_stands : Contains (signed (r ∷ [])) (signing r.issuer (base_bytes options shown.key (lines_at shown.indexes lines)))
+  base_stands : Contains (history_signings (r ∷ [])) (signing r.issuer (sign_data options shown.key (lines_at shown.indexes lines)))
   base_stands =
       let own = in_all base (Contains-append_right (map (signing r.key) r.others) (base ∷ []) base (Contains-here base [])) in
-      subst (Contains (signed (r ∷ []))) (λ i. signing r.issuer (base_bytes (sym same i) (sym key i) (sym mandatory i))) own
+      subst (Contains (history_signings (r ∷ []))) (λ i. signing r.issuer (sign_data (sym same i) (sym key i) (sym mandatory i))) own
 
-  others_stand : All (Contains (signed (r ∷ []))) (map (signing shown.key) (other_lines shown.indexes lines))
+  others_stand : All (Contains (history_signings (r ∷ []))) (map (signing shown.key) (other_lines shown.indexes lines))
   others_stand =
-      All-from_contains (Contains (signed (r ∷ []))) (map (signing shown.key) (other_lines shown.indexes lines))
+      All-from_contains (Contains (history_signings (r ∷ []))) (map (signing shown.key) (other_lines shown.indexes lines))
       (λ x c.
       let w = Contains-from_map (signing shown.key) (other_lines shown.indexes lines) x c in
       let line = All-contains (Contains r.others) (other_lines shown.indexes lines) w.0 others w.1 in
       let own = Contains-append_left (map (signing r.key) r.others) (base ∷ []) (signing r.key w.0) (Contains-map (signing r.key) r.others w.0 line) in
-      subst (Contains (signed (r ∷ []))) (ap (λ k. signing k w.0) (sym key) ∙ w.2) (in_all (signing r.key w.0) own))
+      subst (Contains (history_signings (r ∷ []))) (ap (λ k. signing k w.0) (sym key) ∙ w.2) (in_all (signing r.key w.0) own))
 
   pub record_covers : HasLines r → r.key ≢ r.issuer → IsCovered (r ∷ []) r.issuer options lines shown
   record_covers are apart = record {
     have_lines = All-cons HasLines r [] are (All-nil HasLines);
-    covered = All-cons (Contains (signed (r ∷ []))) (signing r.issuer (base_bytes options shown.key (lines_at shown.indexes lines))) (map (signing shown.key) (other_lines shown.indexes lines)) base_stands others_stand;
+    covered = All-cons (Contains (history_signings (r ∷ []))) (signing r.issuer (sign_data options shown.key (lines_at shown.indexes lines))) (map (signing shown.key) (other_lines shown.indexes lines)) base_stands others_stand;
     keys_differ = AllDiffer-cons r.key [] (Contains-nil r.key) AllDiffer-nil;
     no_issuer = λ s t c d e. apart (ap (λ (x : BaseRecord). x.key) (sym (only_one s c)) ∙ e ∙ ap (λ (x : BaseRecord). x.issuer) (only_one t d));
     not_this_issuer = λ s c e. apart (ap (λ (x : BaseRecord). x.key) (sym (only_one s c)) ∙ e);

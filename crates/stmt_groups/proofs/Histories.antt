@@ -13,7 +13,7 @@ use Rattle.base_types.specs.Sets.{AllDiffer}
 use Rattle.base_types.proofs.Lists.{Contains-here, Contains-there, Contains-nil, Contains-from_map}
 use Rattle.key_device.specs.declared.keys.KeyName.{KeyName}
 use Rattle.stmt_groups.specs.declared.types.BaseRecord.{BaseRecord}
-use Rattle.stmt_groups.specs.Records.{Signing, signing, signed_by, signed, base_bytes}
+use Rattle.stmt_groups.specs.Records.{Signing, signing, record_signings, history_signings, sign_data}
 
 -- ---- where a signing comes from
 
@@ -21,17 +21,17 @@ use Rattle.stmt_groups.specs.Records.{Signing, signing, signed_by, signed, base_
 pub record Origin (history : List BaseRecord) (x : Signing) : Type 0 where
   pub by : BaseRecord
   pub stands : Contains history by
-  pub signs : ((l : List ℕ) × Contains by.others l × (signing by.key l ≡ x)) ⊎ (signing by.issuer (base_bytes by.options by.key by.mandatory) ≡ x)
+  pub signs : ((l : List ℕ) × Contains by.others l × (signing by.key l ≡ x)) ⊎ (signing by.issuer (sign_data by.options by.key by.mandatory) ≡ x)
 
-signs_of : (r : BaseRecord) (x : Signing) → Contains (signed_by r) x → ((l : List ℕ) × Contains r.others l × (signing r.key l ≡ x)) ⊎ (signing r.issuer (base_bytes r.options r.key r.mandatory) ≡ x)
-signs_of r x c = elim (Contains-push_cases (map (signing r.key) r.others) (signing r.issuer (base_bytes r.options r.key r.mandatory)) x c) [
+signs_of : (r : BaseRecord) (x : Signing) → Contains (record_signings r) x → ((l : List ℕ) × Contains r.others l × (signing r.key l ≡ x)) ⊎ (signing r.issuer (sign_data r.options r.key r.mandatory) ≡ x)
+signs_of r x c = elim (Contains-push_cases (map (signing r.key) r.others) (signing r.issuer (sign_data r.options r.key r.mandatory)) x c) [
   | inl d ↦ inl (Contains-from_map (signing r.key) r.others x d)
   | inr e ↦ inr e
 ]
 
-pub origin : (history : List BaseRecord) (x : Signing) → Contains (signed history) x → Origin history x
+pub origin : (history : List BaseRecord) (x : Signing) → Contains (history_signings history) x → Origin history x
 origin [] x c = absurd (Contains-nil x c)
-origin (r ∷ rs) x c = elim (Contains-append_cases (signed_by r) (flat_map signed_by rs) x c) [
+origin (r ∷ rs) x c = elim (Contains-append_cases (record_signings r) (flat_map record_signings rs) x c) [
   | inl d ↦ record { by = r; stands = Contains-here r rs; signs = signs_of r x d }
   | inr d ↦
       let o = origin rs x d in
@@ -57,7 +57,7 @@ cut (x ∷ a) (y ∷ b) r u long e =
     let first : x ≡ y = cc in
     (cc (first, rest.0), rest.1)
 
-pub base_bytes_parts : (o p : List (List ℕ)) (k l : KeyName) (m n : List (List ℕ)) → base_bytes o k m ≡ base_bytes p l n → (sha256 (concat o) ≡ sha256 (concat p)) × (k ≡ l) × (sha256 (concat m) ≡ sha256 (concat n))
+pub base_bytes_parts : (o p : List (List ℕ)) (k l : KeyName) (m n : List (List ℕ)) → sign_data o k m ≡ sign_data p l n → (sha256 (concat o) ≡ sha256 (concat p)) × (k ≡ l) × (sha256 (concat m) ≡ sha256 (concat n))
 base_bytes_parts o p k l m n e =
     let first = cut (sha256 (concat o)) (sha256 (concat p)) (k.bytes ++ sha256 (concat m)) (l.bytes ++ sha256 (concat n)) (length-sha256 (concat o) ∙ sym (length-sha256 (concat p))) e in
     let one = length-sha256 (concat m) in

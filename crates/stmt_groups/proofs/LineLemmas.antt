@@ -7,7 +7,7 @@ use Rattle.std.proofs.lemmas.Bool.Decides.{nat_tests}
 use Rattle.std.proofs.lemmas.List.Elements.{All-cons, All-head, All-tail, All-nil, recursion_from_All, Contains-append_left, Contains-append_right, Contains-append_cases}
 use Rattle.base_types.specs.Sets.{SameElements}
 use Rattle.base_types.proofs.Lists.{Contains-here, Contains-there, Contains-cons_cases, Contains-nil}
-use Rattle.cbor_core.specs.Writing.{rise}
+use Rattle.base_types.specs.Order.{rise}
 use Rattle.stmt_groups.specs.Lines.{is_listed, listed_from, unlisted_from, lines_at, other_lines}
 
 -- ---- one line, listed or not

@@ -10,13 +10,13 @@ use Rattle.nquads.proofs.ReadingDatasets.{canonical_lines_are_lines}
 use Rattle.nquads.proofs.ReadingLines.{one_split}
 use Rattle.stmt_groups.specs.declared.types.BaseRecord.{BaseRecord}
 use Rattle.stmt_groups.specs.Lines.{AreLines, lines_at, other_lines}
-use Rattle.stmt_groups.specs.Records.{Signing, signing, signed, base_bytes, HasLines}
-use Rattle.stmt_groups.specs.Proofs.{Shown}
+use Rattle.stmt_groups.specs.Records.{Signing, signing, history_signings, sign_data, HasLines}
+use Rattle.stmt_groups.specs.Proofs.{DerivedProof}
 use Rattle.stmt_groups.specs.Soundness.{IsCovered, IsOnlyRecord, NamesOne}
 use Rattle.stmt_groups.proofs.LineLemmas.{lines_at-All}
 use Rattle.stmt_groups.proofs.Histories.{Origin, origin, same_key, same_bytes, base_bytes_parts, one_place, place_of, one_record}
 
-module _ (history : List BaseRecord) (issuer : KeyName) (options lines : List (List ℕ)) (shown : Shown) (h : IsCovered history issuer options lines shown) where
+module _ (history : List BaseRecord) (issuer : KeyName) (options lines : List (List ℕ)) (shown : DerivedProof) (h : IsCovered history issuer options lines shown) where
   -- the record of the base signature
   pub record Named : Type 0 where
     pub by : BaseRecord
@@ -27,9 +27,9 @@ module _ (history : List BaseRecord) (issuer : KeyName) (options lines : List (L
     pub mandatory_are : AreLines lines → by.mandatory ≡ lines_at shown.indexes lines
 
   abbrev base : Signing
-  base = signing issuer (base_bytes options shown.key (lines_at shown.indexes lines))
+  base = signing issuer (sign_data options shown.key (lines_at shown.indexes lines))
 
-  from_base : (o : Origin history base) → signing o.by.issuer (base_bytes o.by.options o.by.key o.by.mandatory) ≡ base → Named
+  from_base : (o : Origin history base) → signing o.by.issuer (sign_data o.by.options o.by.key o.by.mandatory) ≡ base → Named
   from_base o e =
       let r = o.by in
       let mine : r.issuer ≡ issuer = same_key r.issuer issuer _ _ e in
@@ -46,7 +46,7 @@ module _ (history : List BaseRecord) (issuer : KeyName) (options lines : List (L
 
   pub named : Named
   named =
-      let o = origin history base (All-head (Contains (signed history)) base (map (signing shown.key) (other_lines shown.indexes lines)) h.covered) in
+      let o = origin history base (All-head (Contains (history_signings history)) base (map (signing shown.key) (other_lines shown.indexes lines)) h.covered) in
       elim o.signs [
         | inl w ↦ absurd (h.not_this_issuer o.by o.stands (same_key o.by.key issuer _ _ w.2))
         | inr e ↦ from_base o e
@@ -57,8 +57,8 @@ module _ (history : List BaseRecord) (issuer : KeyName) (options lines : List (L
   others_stand n =
       All-from_contains (Contains n.by.others) (other_lines shown.indexes lines)
       (λ l c.
-      let covered = All-tail (Contains (signed history)) base (map (signing shown.key) (other_lines shown.indexes lines)) h.covered in
-      let stands = All-contains (Contains (signed history)) (map (signing shown.key) (other_lines shown.indexes lines)) (signing shown.key l) covered (Contains-map (signing shown.key) (other_lines shown.indexes lines) l c) in
+      let covered = All-tail (Contains (history_signings history)) base (map (signing shown.key) (other_lines shown.indexes lines)) h.covered in
+      let stands = All-contains (Contains (history_signings history)) (map (signing shown.key) (other_lines shown.indexes lines)) (signing shown.key l) covered (Contains-map (signing shown.key) (other_lines shown.indexes lines) l c) in
       let o = origin history (signing shown.key l) stands in
       elim o.signs [
         | inl w ↦
@@ -80,7 +80,7 @@ module _ (history : List BaseRecord) (issuer : KeyName) (options lines : List (L
         only = λ other s there _ key. one_place history h.keys_differ other place.0 s n.by there place.1 (key ∙ sym n.key_is);
       }
 
-pub covered_names_one : (history : List BaseRecord) (issuer : KeyName) (shown : Shown) (label options_label : Blank → List ℕ) (document options : List Statement) → All IsStatement document → All (HasLabels label) document → LabelsDiffer label document → All IsStatement options → All (HasLabels options_label) options → LabelsDiffer options_label options → IsCovered history issuer (canonical_lines options_label options) (canonical_lines label document) shown → NamesOne history issuer document options label shown
+pub covered_names_one : (history : List BaseRecord) (issuer : KeyName) (shown : DerivedProof) (label options_label : Blank → List ℕ) (document options : List Statement) → All IsStatement document → All (HasLabels label) document → LabelsDiffer label document → All IsStatement options → All (HasLabels options_label) options → LabelsDiffer options_label options → IsCovered history issuer (canonical_lines options_label options) (canonical_lines label document) shown → NamesOne history issuer document options label shown
 covered_names_one history issuer shown label options_label document options statements labels differ option_statements option_labels option_differ h =
     let o = canonical_lines options_label options in
     let l = canonical_lines label document in

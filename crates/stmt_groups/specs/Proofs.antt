@@ -5,11 +5,11 @@ use Rattle.key_device.specs.declared.keys.KeyName.{KeyName}
 use Rattle.key_device.specs.declared.keys.Signature.{Signature}
 use Rattle.key_device.specs.Devices.{Acceptance}
 use Rattle.stmt_groups.specs.Lines.{lines_at, other_lines}
-use Rattle.stmt_groups.specs.Records.{Signing, signing, base_bytes}
+use Rattle.stmt_groups.specs.Records.{Signing, signing, sign_data}
 
 -- What a derived value says of a document, beside its label map: the statement key, the issuer's signature,
 -- the signatures of the statements that are not mandatory, and the places of those that are.
-pub record Shown : Type 0 where
+pub record DerivedProof : Type 0 where
   pub key : KeyName
   pub signature : Signature
   pub signatures : List Signature
@@ -20,19 +20,19 @@ abbrev pub AreBelow : List (List ℕ) → List ℕ → Type 0
 AreBelow lines indexes = All (λ i. i < length lines) indexes
 
 -- there are as many signatures as lines that are not mandatory
-abbrev pub IsCounted : List (List ℕ) → Shown → Type 0
+abbrev pub IsCounted : List (List ℕ) → DerivedProof → Type 0
 IsCounted lines shown = length shown.signatures ≡ length (other_lines shown.indexes lines)
 
 -- the issuer key accepts the issuer's signature on the base bytes
-abbrev pub HasBaseSignature : Acceptance → KeyName → List (List ℕ) → List (List ℕ) → Shown → Type 0
-HasBaseSignature accepts issuer options lines shown = accepts issuer (base_bytes options shown.key (lines_at shown.indexes lines)) shown.signature ≡ true
+abbrev pub HasBaseSignature : Acceptance → KeyName → List (List ℕ) → List (List ℕ) → DerivedProof → Type 0
+HasBaseSignature accepts issuer options lines shown = accepts issuer (sign_data options shown.key (lines_at shown.indexes lines)) shown.signature ≡ true
 
 -- the statement key accepts the i-th signature on the i-th line that is not mandatory
-abbrev pub HasStatementSignatures : Acceptance → List (List ℕ) → Shown → Type 0
+abbrev pub HasStatementSignatures : Acceptance → List (List ℕ) → DerivedProof → Type 0
 HasStatementSignatures accepts lines shown = AllZip (λ line signature. accepts shown.key line signature ≡ true) (other_lines shown.indexes lines) shown.signatures
 
 -- A good proof, over the canonical lines of a document and of its options.
-pub record IsGood (accepts : Acceptance) (issuer : KeyName) (options lines : List (List ℕ)) (shown : Shown) : Type 0 where
+pub record IsGood (accepts : Acceptance) (issuer : KeyName) (options lines : List (List ℕ)) (shown : DerivedProof) : Type 0 where
   pub filled : lines ≢ []
   pub below : AreBelow lines shown.indexes
   pub counted : IsCounted lines shown
@@ -41,5 +41,5 @@ pub record IsGood (accepts : Acceptance) (issuer : KeyName) (options lines : Lis
 
 -- what a device was asked to accept for it: the base bytes under the issuer key, and each line that is not
 -- mandatory under the statement key
-abbrev pub checked : KeyName → List (List ℕ) → List (List ℕ) → Shown → List Signing
-checked issuer options lines shown = signing issuer (base_bytes options shown.key (lines_at shown.indexes lines)) ∷ map (signing shown.key) (other_lines shown.indexes lines)
+abbrev pub checked_signings : KeyName → List (List ℕ) → List (List ℕ) → DerivedProof → List Signing
+checked_signings issuer options lines shown = signing issuer (sign_data options shown.key (lines_at shown.indexes lines)) ∷ map (signing shown.key) (other_lines shown.indexes lines)

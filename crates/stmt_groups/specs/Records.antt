@@ -10,8 +10,8 @@ use Rattle.stmt_groups.specs.Lines.{AreLines}
 
 -- The bytes that the issuer key signs: the digest of the options' lines, the statement key, and the digest
 -- of the mandatory lines. -- Data Integrity ECDSA Cryptosuites 1.0, 3.4.11 (createSerializeSignData)
-abbrev pub base_bytes : List (List ℕ) → KeyName → List (List ℕ) → List ℕ
-base_bytes options key mandatory = sha256 (concat options) ++ (key.bytes ++ sha256 (concat mandatory))
+abbrev pub sign_data : List (List ℕ) → KeyName → List (List ℕ) → List ℕ
+sign_data options key mandatory = sha256 (concat options) ++ (key.bytes ++ sha256 (concat mandatory))
 
 -- bytes signed under a key
 pub record Signing : Type 0 where
@@ -22,12 +22,12 @@ abbrev pub signing : KeyName → List ℕ → Signing
 signing key bytes = record { key = key; bytes = bytes }
 
 -- what a record stands for: its statement key signed each other line, and its issuer key the base bytes
-abbrev pub signed_by : BaseRecord → List Signing
-signed_by r = map (signing r.key) r.others ++ signing r.issuer (base_bytes r.options r.key r.mandatory) ∷ []
+abbrev pub record_signings : BaseRecord → List Signing
+record_signings r = map (signing r.key) r.others ++ signing r.issuer (sign_data r.options r.key r.mandatory) ∷ []
 
 -- what all records of a history stand for
-abbrev pub signed : List BaseRecord → List Signing
-signed history = flat_map signed_by history
+abbrev pub history_signings : List BaseRecord → List Signing
+history_signings history = flat_map record_signings history
 
 -- the statements are split in two: the mandatory ones, and exactly the others
 pub record IsSplit (whole mandatory others : List Statement) : Type 0 where

@@ -8,19 +8,19 @@ use Rattle.nquads.specs.Terms.{Blank, Statement}
 use Rattle.nquads.specs.Lines.{canonical_lines, LabelsDiffer}
 use Rattle.stmt_groups.specs.declared.types.BaseRecord.{BaseRecord}
 use Rattle.stmt_groups.specs.Lines.{lines_at, other_lines}
-use Rattle.stmt_groups.specs.Records.{signed, HasLines}
-use Rattle.stmt_groups.specs.Proofs.{Shown, checked}
+use Rattle.stmt_groups.specs.Records.{history_signings, HasLines}
+use Rattle.stmt_groups.specs.Proofs.{DerivedProof, checked_signings}
 
 -- equal digests of the two texts mean equal texts
 abbrev pub NoCollision : List (List ℕ) → List (List ℕ) → Type 0
 NoCollision first second = sha256 (concat first) ≡ sha256 (concat second) → concat first ≡ concat second
 
 -- What is asked of a history of records for a yes under these keys over these lines:
-pub record IsCovered (history : List BaseRecord) (issuer : KeyName) (options lines : List (List ℕ)) (shown : Shown) : Type 0 where
+pub record IsCovered (history : List BaseRecord) (issuer : KeyName) (options lines : List (List ℕ)) (shown : DerivedProof) : Type 0 where
   -- its texts are lines
   pub have_lines : All HasLines history
   -- what was accepted had been signed with one of its records
-  pub covered : All (Contains (signed history)) (checked issuer options lines shown)
+  pub covered : All (Contains (history_signings history)) (checked_signings issuer options lines shown)
   -- no two records share a statement key, and none is an issuer key
   pub keys_differ : AllDiffer (map (λ (r : BaseRecord). r.key) history)
   pub no_issuer : (r s : BaseRecord) → Contains history r → Contains history s → r.key ≢ s.issuer
@@ -49,7 +49,7 @@ pub record IsOnlyRecord (history : List BaseRecord) (issuer key : KeyName) (r : 
   pub only : (other : ℕ) (s : BaseRecord) → slice_get history other ≡ Some s → s.issuer ≡ issuer → s.key ≡ key → other ≡ place
 
 -- Exactly one record has the accepted keys, and it holds of the document and its options.
-pub record NamesOne (history : List BaseRecord) (issuer : KeyName) (document options : List Statement) (label : Blank → List ℕ) (shown : Shown) : Type 0 where
+pub record NamesOne (history : List BaseRecord) (issuer : KeyName) (document options : List Statement) (label : Blank → List ℕ) (shown : DerivedProof) : Type 0 where
   pub named : BaseRecord
   pub only : IsOnlyRecord history issuer shown.key named
   pub holds : Holds named document options label shown.indexes

@@ -2,21 +2,21 @@
 
 ghost use Rattle.std.specs.Prelude.{All, Contains, ℕ, List, [], ◌∷◌, length, true, ◌++◌, ◌-◌, ◌≡◌, ◌≢◌};
 ghost use Rattle.base_types.specs.Sets.{SameElements};
-ghost use Rattle.cbor_core.specs.Writing.{rise};
+ghost use Rattle.base_types.specs.Order.{rise};
 ghost use Rattle.key_device.specs.declared.keys.KeyName.{KeyName};
 ghost use Rattle.key_device.specs.Devices.{Acceptance};
 ghost use Rattle.nquads.specs.Terms.{Blank, IsStatement, Statement};
 ghost use Rattle.nquads.specs.Lines.{HasLabels, LabelsDiffer, canonical_lines};
 ghost use Rattle.stmt_groups.specs.declared.types.BaseRecord.{BaseRecord};
 ghost use Rattle.stmt_groups.specs.Lines.{lines_at, other_lines};
-ghost use Rattle.stmt_groups.specs.Proofs.{AreBelow, IsGood, Shown};
+ghost use Rattle.stmt_groups.specs.Proofs.{AreBelow, IsGood, DerivedProof};
 ghost use Rattle.stmt_groups.specs.Records.{HasLines};
 ghost use Rattle.stmt_groups.specs.Soundness.{IsCovered, NamesOne};
 
 /// Where a proof is good over the lines of a document and of its options, and a history of records covers
 /// it, exactly one record has the accepted keys, and it holds of the document and the options.
 pub fn a_covered_proof_names_one_record()
-    ensures { (history : List BaseRecord) (accepts : Acceptance) (issuer : KeyName) (shown : Shown)
+    ensures { (history : List BaseRecord) (accepts : Acceptance) (issuer : KeyName) (shown : DerivedProof)
         (label options_label : Blank → List ℕ) (document options : List Statement)
         → All IsStatement document → All (HasLabels label) document → LabelsDiffer label document
         → All IsStatement options → All (HasLabels options_label) options → LabelsDiffer options_label options
@@ -28,7 +28,7 @@ pub fn a_covered_proof_names_one_record()
 /// What is asked of a history for a yes can be met: a record alone covers lines that have exactly its
 /// mandatory ones at the indexes, and of which each other line is one of its others, with its options.
 pub fn a_record_covers_what_it_holds_of()
-    ensures { (r : BaseRecord) (shown : Shown) (options lines : List (List ℕ)) → HasLines r → r.key ≢ r.issuer
+    ensures { (r : BaseRecord) (shown : DerivedProof) (options lines : List (List ℕ)) → HasLines r → r.key ≢ r.issuer
         → shown.key ≡ r.key → lines_at shown.indexes lines ≡ r.mandatory
         → All (Contains r.others) (other_lines shown.indexes lines) → options ≡ r.options
         → IsCovered (r ∷ []) r.issuer options lines shown }

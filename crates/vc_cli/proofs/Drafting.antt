@@ -5,7 +5,7 @@ use Rattle.std.specs.Str.{bytes_eq}
 use Rattle.json_tree.specs.declared.tree.Tree.{Tree}
 use Rattle.json_tree.specs.declared.tree.Tree.TheVariants as v
 use Rattle.json_tree.specs.declared.tree.Member.{Member}
-use Rattle.json_tree.specs.Trees.{entry, is_before}
+use Rattle.json_tree.specs.Trees.{new_member, is_before}
 use Rattle.ld_rdf.specs.Reduced.{put_member, with_member}
 use Rattle.vc_cli.specs.declared.secured.Slot.{Slot}
 use Rattle.vc_cli.specs.declared.secured.Draft.{Draft}
@@ -67,22 +67,22 @@ named_not (m ∷ ms) zero key d within h = inr h
 named_not (m ∷ ms) (suc at) key d within h = elim (named_not ms at key d (omega (arith, within)) h) [ inl e ↦ inl (ap suc e) | inr e ↦ inr e ]
 
 pub slot_within : (ms : List (Member Tree)) (at : ℕ) (key : List ℕ) → is_named ms at key ≡ true → at < length ms
-slot_within ms at key h = (named_within ms at key (entry [] v.Null) h).0
+slot_within ms at key h = (named_within ms at key (new_member [] v.Null) h).0
 
-pub slot_own : (ms : List (Member Tree)) (at : ℕ) (key : List ℕ) → at ≡ place_of key ms → is_named ms at key ≡ true → (value : Tree) → filled ms at value ≡ put_member (entry key value) ms
+pub slot_own : (ms : List (Member Tree)) (at : ℕ) (key : List ℕ) → at ≡ place_of key ms → is_named ms at key ≡ true → (value : Tree) → filled ms at value ≡ put_member (new_member key value) ms
 slot_own ms at key place h = λ value.
-    let own = named_within ms (place_of key ms) key (entry [] v.Null) (subst (λ (n : ℕ). is_named ms n key ≡ true) place h) in
-    ap (λ (n : ℕ). filled ms n value) place ∙ fill_own key value ms (entry [] v.Null) own.0 own.1
+    let own = named_within ms (place_of key ms) key (new_member [] v.Null) (subst (λ (n : ℕ). is_named ms n key ≡ true) place h) in
+    ap (λ (n : ℕ). filled ms n value) place ∙ fill_own key value ms (new_member [] v.Null) own.0 own.1
 
-pub slot_new : (ms : List (Member Tree)) (at : ℕ) (key : List ℕ) (w : Tree) → at ≡ place_of key ms → at ≤ length ms → is_named ms at key ≡ false → (value : Tree) → filled (insert ms at (entry key w)) at value ≡ put_member (entry key value) ms
+pub slot_new : (ms : List (Member Tree)) (at : ℕ) (key : List ℕ) (w : Tree) → at ≡ place_of key ms → at ≤ length ms → is_named ms at key ≡ false → (value : Tree) → filled (insert ms at (new_member key w)) at value ≡ put_member (new_member key value) ms
 slot_new ms at key w place within h = λ value.
-    let other = named_not ms (place_of key ms) key (entry [] v.Null) (subst (λ (n : ℕ). n ≤ length ms) place within) (subst (λ (n : ℕ). is_named ms n key ≡ false) place h) in
-    ap (λ (n : ℕ). filled (insert ms n (entry key w)) n value) place ∙ fill_new key value w ms (entry [] v.Null) other
+    let other = named_not ms (place_of key ms) key (new_member [] v.Null) (subst (λ (n : ℕ). n ≤ length ms) place within) (subst (λ (n : ℕ). is_named ms n key ≡ false) place h) in
+    ap (λ (n : ℕ). filled (insert ms n (new_member key w)) n value) place ∙ fill_new key value w ms (new_member [] v.Null) other
 
-pub slot_object : (object : Tree) (members once turned twice : List (Member Tree)) (slot : Slot) (key : List ℕ) → object ≡ v.Object members → turned ≡ reverse members → once ≡ turned → twice ≡ reverse once → ((value : Tree) → filled slot.members.items slot.at value ≡ put_member (entry key value) twice) → (value : Tree) → filled_object slot value ≡ with_member key value object
+pub slot_object : (object : Tree) (members once turned twice : List (Member Tree)) (slot : Slot) (key : List ℕ) → object ≡ v.Object members → turned ≡ reverse members → once ≡ turned → twice ≡ reverse once → ((value : Tree) → filled slot.members.items slot.at value ≡ put_member (new_member key value) twice) → (value : Tree) → filled_object slot value ≡ with_member key value object
 slot_object object members once turned twice slot key is first same second puts = λ value.
     let whole : twice ≡ members = second ∙ ap reverse same ∙ ap reverse first ∙ reverse-reverse members in
-    ap v.Object (puts value) ∙ ap (λ (l : List (Member Tree)). v.Object (put_member (entry key value) l)) whole
+    ap v.Object (puts value) ∙ ap (λ (l : List (Member Tree)). v.Object (put_member (new_member key value) l)) whole
     ∙ sym (with_member-Object key value members) ∙ ap (with_member key value) (sym is)
 
 -- ---- drafts

@@ -6,7 +6,7 @@ use Rattle.std.proofs.lemmas.List.Elements.{All-map, Contains-get_or}
 use Rattle.base_types.specs.Sets.{SameElements, HasExactly}
 use Rattle.json_tree.specs.declared.tree.Tree.{Tree}
 use Rattle.nquads.specs.Terms.{Statement}
-use Rattle.nquads.specs.Spelling.{spelled}
+use Rattle.nquads.specs.Spelling.{text_quad}
 use Rattle.nquads.specs.Lines.{canonical_text}
 use Rattle.nquads.specs.Texts.{Names, label_in}
 use Rattle.nquads.specs.declared.labels.TextLabel.{TextLabel}
@@ -30,16 +30,16 @@ is_one_word words word seen text r some few is same said =
     )
 
 -- a statement of the flat meaning has no blank node, so no labels name them all
-pub property_named : (id mapping text : List ℕ) → Names [] (spelled (property_statement id mapping text))
+pub property_named : (id mapping text : List ℕ) → Names [] (text_quad (property_statement id mapping text))
 property_named id mapping text = record { subject = λ e. absurd (omega arith); object = λ e. absurd (omega arith); graph = tt }
 
-pub meant_named : (r : Tree) (s : Statement) → Means r s → Names [] (spelled s)
-meant_named r s m = subst (λ t. Names [] (spelled t)) (sym m.is) (property_named m.id m.mapping m.text)
+pub meant_named : (r : Tree) (s : Statement) → Means r s → Names [] (text_quad s)
+meant_named r s m = subst (λ t. Names [] (text_quad t)) (sym m.is) (property_named m.id m.mapping m.text)
 
-pub flat_named : (r : Tree) (q : List Statement) → HasExactly q (Means r) → All (Names []) (map spelled q)
-flat_named r q exact = All-map (Names []) spelled q (λ k d h. meant_named r (get_or q k d) ((exact (get_or q k d)).0 (Contains-get_or q k d h)))
+pub flat_named : (r : Tree) (q : List Statement) → HasExactly q (Means r) → All (Names []) (map text_quad q)
+flat_named r q exact = All-map (Names []) text_quad q (λ k d h. meant_named r (get_or q k d) ((exact (get_or q k d)).0 (Contains-get_or q k d h)))
 
-pub flat_named_by : (r : Tree) (labels : List TextLabel) (quads : List TextQuad) (q : List Statement) → labels ≡ [] → quads ≡ map spelled q → HasExactly q (Means r) → All (Names labels) quads
+pub flat_named_by : (r : Tree) (labels : List TextLabel) (quads : List TextQuad) (q : List Statement) → labels ≡ [] → quads ≡ map text_quad q → HasExactly q (Means r) → All (Names labels) quads
 flat_named_by r labels quads q none is exact = rw (none, is) (flat_named r q exact)
 
 -- the text that no labels give is that of no label

@@ -10,7 +10,7 @@ use Rattle.json_tree.specs.declared.tree.Member.{Member}
 use Rattle.json_tree.specs.declared.place.Step.{Step}
 use Rattle.json_tree.specs.declared.place.Step.TheVariants.{Key}
 use Rattle.json_tree.specs.Places.{look, members_of, names_at, names_in, value_of}
-use Rattle.json_tree.specs.Trees.{entry, holds_version, is_in_range, is_lawful}
+use Rattle.json_tree.specs.Trees.{new_member, holds_version, is_in_range, is_lawful}
 use Rattle.json_tree.proofs.Rising.{left_of, right_of}
 use Rattle.json_tree.proofs.TreeLemmas.{child_of-Object-Key, is_lawful-Text, members_lawful, members_of-Some, names_at-members}
 use Rattle.json_tree.proofs.Equations.{holds_version-Object, holds_version-Text, is_in_range-Object}
@@ -35,7 +35,7 @@ keys ms = map (λ m. m.key) ms
 -- ---- the members of a flat document
 
 document_is : (c d : Tree) (place : List Step) → look (Key (codes "document") ∷ place) (statements_request c d) ≡ look place d
-document_is c d place = ap (option_and_then (look place)) (child_of-Object-Key (entry (codes "contexts") c ∷ entry (codes "document") d ∷ []) (codes "document"))
+document_is c d place = ap (option_and_then (look place)) (child_of-Object-Key (new_member (codes "contexts") c ∷ new_member (codes "document") d ∷ []) (codes "document"))
 
 flat_members : (c d : Tree) (names : List (List ℕ)) → names_at (Key (codes "document") ∷ []) (statements_request c d) ≡ Some names → (ms : List (Member Tree)) × (members_of d ≡ Some ms) × (keys ms ≡ names)
 flat_members c d names is =
@@ -81,7 +81,7 @@ module _ (c d : Tree) (f : IsFlat (statements_request c d)) (lawful : is_lawful 
 -- options, which take a context, are objects of texts themselves
 pub option_texts : (c o : Tree) (name : List ℕ) → IsFlat (statements_request c (taking name o)) → is_lawful o ≡ true → look (at at_context) o ≡ None → Texts o
 option_texts c o name f lawful none =
-    let x : Member Tree = entry at_context (v.Text name) in
+    let x : Member Tree = new_member at_context (v.Text name) in
     let found = flat_members c (taking name o) f.names f.document in
     let inner = option_map-Some (put_member x) (members_of o) found.0 (sym (members_of-changed (put_member x) o) ∙ found.1) in
     let is_object : o ≡ v.Object inner.0 = members_of-Some o inner.0 inner.1 in
@@ -125,7 +125,7 @@ texts_printable t x lawful small = record {
 -- ---- the document and the options of a request for issuing
 
 abbrev five_entries : Tree → Tree → Tree → Tree → Tree → List (Member Tree)
-five_entries c d k m o = entry (codes "contexts") c ∷ entry (codes "document") d ∷ entry (codes "keys") k ∷ entry (codes "mandatory") m ∷ entry (codes "options") o ∷ []
+five_entries c d k m o = new_member (codes "contexts") c ∷ new_member (codes "document") d ∷ new_member (codes "keys") k ∷ new_member (codes "mandatory") m ∷ new_member (codes "options") o ∷ []
 
 of_document : (p : Tree → Bool) (c d k m o : Tree) → list_all (λ (n : Member Tree). p n.value) (five_entries c d k m o) ≡ true → p d ≡ true
 of_document p c d k m o all = left_of (p d) _ (right_of (p c) _ all)

@@ -3,7 +3,7 @@ use Rattle.std.proofs.Common.{◌≡◌, ℕ, ◌≤◌, List, [], ◌∷◌, le
 use Rattle.std.specs.Prelude.{◌≢◌}
 use Rattle.base_types.proofs.Lists.{Contains-nil}
 use Rattle.cbor_core.specs.declared.item.Item.TheVariants as v
-use Rattle.cbor_core.specs.Writing.{count_of, fits, spelling}
+use Rattle.cbor_core.specs.Writing.{count_of, fits, encoding_of}
 use Rattle.cbor_core.proofs.Lawful.{count-Blob, count-List, count-Text, is_spelled}
 use Rattle.cbor_core.proofs.Writes.{fits-Blob, fits-List, fits_text}
 use Rattle.std.proofs.lemmas.List.{length-map}
@@ -16,12 +16,12 @@ use Rattle.key_device.specs.Devices.{GrewBy, IsSecretTold}
 use Rattle.key_device.specs.Devices as devices
 use Rattle.key_device.specs.Tables.{key_for}
 use Rattle.nquads.specs.Terms.{Statement}
-use Rattle.nquads.specs.Spelling.{spelled}
+use Rattle.nquads.specs.Spelling.{text_quad}
 use Rattle.nquads.specs.Lines.{canonical_lines}
 use Rattle.proof_cbor.specs.Values.{CanWriteBase, SpellsBase, base_item}
 use Rattle.proof_cbor.proofs.Making.{base_nests, base_rises}
 use Rattle.stmt_groups.specs.declared.types.BaseRecord.{BaseRecord}
-use Rattle.stmt_groups.specs.Records.{IsRecord, IsSplit, base_bytes}
+use Rattle.stmt_groups.specs.Records.{IsRecord, IsSplit, sign_data}
 use Rattle.vc_cli.specs.declared.tasks.IssueTask.{IssueTask}
 use Rattle.vc_cli.specs.Requests.{secured}
 use Rattle.vc_cli.specs.Issuing.{DeviceMeaning, IsIssued, no_label}
@@ -58,7 +58,7 @@ module _ (key secret signature : List ℕ) where
   whole_can long key_long secret_long =
       let value = whole_value key secret signature in (
         record { signature = long; key = key_long; secret = secret_long; signatures = refl },
-        is_spelled (base_item value) (spelling (base_item value)) [] refl refl (whole_fits long key_long secret_long) (base_rises value (base_item value) refl) (base_nests value (base_item value) refl),
+        is_spelled (base_item value) (encoding_of (base_item value)) [] refl refl (whole_fits long key_long secret_long) (base_rises value (base_item value) refl) (base_nests value (base_item value) refl),
       )
 
 pub can_sign : (key secret old signature : List ℕ) → CanWriteBase (whole_value key secret old) → length signature ≡ 64 → CanWriteBase (whole_value key secret signature)
@@ -78,17 +78,17 @@ whole_record q o made mandatory options others = record { others = []; split = w
 -- ---- the whole
 
 pub has_statements : (r : Tree) (t : IssueTask) (w : IsIssueTask r t) → (t.quads ≡ [] → ⊥) → w.case_of.statements ≢ []
-has_statements r t w filled none = filled (w.quads ∙ ap (map spelled) none)
+has_statements r t w filled none = filled (w.quads ∙ ap (map text_quad) none)
 
 pub no_quads : (r : Tree) (t : IssueTask) (w : IsIssueTask r t) → t.quads ≡ [] → w.case_of.statements ≡ []
 no_quads r t w none = empty w.case_of.statements (sym w.quads ∙ none)
   where
-    empty : (q : List Statement) → map spelled q ≡ [] → q ≡ []
+    empty : (q : List Statement) → map text_quad q ≡ [] → q ≡ []
     empty [] e = refl
     empty (s ∷ ss) e = absurd cc
 
 pub statements_are : (r : Tree) (t : IssueTask) (w : IsIssueTask r t) → length t.quads ≡ length w.case_of.statements
-statements_are r t w = ap length w.quads ∙ length-map w.case_of.statements spelled
+statements_are r t w = ap length w.quads ∙ length-map w.case_of.statements text_quad
 
 pub key_asked : (r : Tree) (t : IssueTask) (w : IsIssueTask r t) (found : Option KeyName) → found ≡ key_for t.keys.entries t.method → key_for w.case_of.parts.table w.case_of.parts.method ≡ found
 key_asked r t w found is = (λ i. key_for (sym w.keys i) (sym w.method i)) ∙ sym is
@@ -105,9 +105,9 @@ pub issued_is : (before after : DeviceMeaning) (r : Tree) (t : IssueTask) (w : I
     → made.issuer ≡ issuer
     → made.key ≡ key
     → IsRecord no_label no_label w.case_of.statements w.case_of.statements w.case_of.options made
-    → bytes ≡ base_bytes made.options made.key made.mandatory
+    → bytes ≡ sign_data made.options made.key made.mandatory
     → after.accepts issuer bytes signature ≡ true
-    → GrewBy (devices.entry issuer bytes signature) before.signed after.signed
+    → GrewBy (devices.log_entry issuer bytes signature) before.signed after.signed
     → (before.exact ≡ true → before.owns key ≡ false)
     → after.owns key ≡ true
     → after.owns issuer ≡ true
@@ -127,8 +127,8 @@ issued_is before after r t w document made issuer key secret signature text byte
   issuer = key_asked r t w (Some issuer) found ∙ ap Some (sym issuer_is);
   is_record = record_is;
   accepted = (λ i. after.accepts (issuer_is i) (sym are i) signature) ∙ accepted;
-  grew = subst (λ (k : KeyName). GrewBy (devices.entry k (base_bytes made.options made.key made.mandatory) signature) before.signed after.signed) (sym issuer_is)
-      (subst (λ (bs : List ℕ). GrewBy (devices.entry issuer bs signature) before.signed after.signed) are grew);
+  grew = subst (λ (k : KeyName). GrewBy (devices.log_entry k (sign_data made.options made.key made.mandatory) signature) before.signed after.signed) (sym issuer_is)
+      (subst (λ (bs : List ℕ). GrewBy (devices.log_entry issuer bs signature) before.signed after.signed) are grew);
   fresh = λ e. ap before.owns key_is ∙ fresh e;
   owned = ap after.owns key_is ∙ owned;
   issuer_owned = ap after.owns issuer_is ∙ issuer_owned;

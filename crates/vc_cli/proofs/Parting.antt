@@ -6,11 +6,11 @@ use Rattle.json_tree.specs.declared.tree.Tree.{Tree}
 use Rattle.json_tree.specs.declared.tree.Tree.TheVariants as v
 use Rattle.json_tree.specs.declared.tree.Member.{Member}
 use Rattle.json_tree.specs.Places.{look, members_of}
-use Rattle.json_tree.specs.Trees.{entry}
+use Rattle.json_tree.specs.Trees.{new_member}
 use Rattle.json_tree.proofs.TreeLemmas.{members_of-Object, members_of-Some}
 use Rattle.key_device.specs.declared.table.KeyEntry.{KeyEntry}
 use Rattle.nquads.specs.Terms.{IsStatement, Statement}
-use Rattle.nquads.specs.Spelling.{spelled}
+use Rattle.nquads.specs.Spelling.{text_quad}
 use Rattle.ld_rdf.specs.Flat.{IsFlat, IsFlatMeaning, Means, at_context}
 use Rattle.ld_rdf.specs.Parts.{provided}
 use Rattle.ld_rdf.specs.Reduced.{statements_request, taking, without}
@@ -60,10 +60,10 @@ abbrev fours : Tree → List ℕ → List ℕ → List ℕ → Four
 fours x n y w = (x, n, y, w)
 
 abbrev entries : Five → List (Member Tree)
-entries p = entry (codes "contexts") p.0 ∷ entry (codes "document") p.1 ∷ entry (codes "keys") p.2 ∷ entry (codes "mandatory") p.3 ∷ entry (codes "options") p.4 ∷ []
+entries p = new_member (codes "contexts") p.0 ∷ new_member (codes "document") p.1 ∷ new_member (codes "keys") p.2 ∷ new_member (codes "mandatory") p.3 ∷ new_member (codes "options") p.4 ∷ []
 
 abbrev three_entries : Three → List (Member Tree)
-three_entries p = entry (codes "contexts") p.0 ∷ entry (codes "document") p.1 ∷ entry (codes "keys") p.2 ∷ []
+three_entries p = new_member (codes "contexts") p.0 ∷ new_member (codes "document") p.1 ∷ new_member (codes "keys") p.2 ∷ []
 
 five_in-Some : (ms : List (Member Tree)) (p : Five) → five_in ms ≡ Some p → ms ≡ entries p
 five_in-Some [] p h = absurd (cc)
@@ -81,7 +81,7 @@ five_in-Some (c ∷ (d ∷ (k ∷ (m ∷ (o ∷ []))))) p h =
     let f = same_text m.key (codes "mandatory") g.3 in
     let i = same_text o.key (codes "options") g.4 in
     let same : values ≡ p = some_same values p given.1 in
-    let named : (c ∷ (d ∷ (k ∷ (m ∷ (o ∷ []))))) ≡ entries values = (λ j. entry (a j) c.value ∷ entry (b j) d.value ∷ entry (e j) k.value ∷ entry (f j) m.value ∷ entry (i j) o.value ∷ []) in
+    let named : (c ∷ (d ∷ (k ∷ (m ∷ (o ∷ []))))) ≡ entries values = (λ j. new_member (a j) c.value ∷ new_member (b j) d.value ∷ new_member (e j) k.value ∷ new_member (f j) m.value ∷ new_member (i j) o.value ∷ []) in
     named ∙ ap entries same
   where
     some_same : {A : Type 0} (x y : A) → Some x ≡ Some y → x ≡ y
@@ -100,7 +100,7 @@ three_in-Some (c ∷ (d ∷ (k ∷ []))) p h =
     let b = same_text d.key (codes "document") g.1 in
     let e = same_text k.key (codes "keys") g.2 in
     let same : values ≡ p = some_same values p given.1 in
-    let named : (c ∷ (d ∷ (k ∷ []))) ≡ three_entries values = (λ j. entry (a j) c.value ∷ entry (b j) d.value ∷ entry (e j) k.value ∷ []) in
+    let named : (c ∷ (d ∷ (k ∷ []))) ≡ three_entries values = (λ j. new_member (a j) c.value ∷ new_member (b j) d.value ∷ new_member (e j) k.value ∷ []) in
     named ∙ ap three_entries same
   where
     some_same : {A : Type 0} (x y : A) → Some x ≡ Some y → x ≡ y
@@ -193,9 +193,9 @@ module _ (r : Tree) where
 
     pub read_from : (t : IssueRead) (name method : List ℕ) (q u : List Statement) → m ≡ whole_document → issue_names d o ≡ Some (name, method)
         → IsKeyTable k t.keys.entries
-        → IsFlat (statements_request c (without proof_name d)) → IsFlatMeaning (statements_request c (without proof_name d)) q → t.quads ≡ map spelled q
+        → IsFlat (statements_request c (without proof_name d)) → IsFlatMeaning (statements_request c (without proof_name d)) q → t.quads ≡ map text_quad q
         → ((s : Statement) → Means (statements_request c (without proof_name d)) s → IsStatement s)
-        → IsFlat (statements_request c (taking name (without value_name o))) → IsFlatMeaning (statements_request c (taking name (without value_name o))) u → t.option_quads ≡ map spelled u
+        → IsFlat (statements_request c (taking name (without value_name o))) → IsFlatMeaning (statements_request c (taking name (without value_name o))) u → t.option_quads ≡ map text_quad u
         → ((s : Statement) → Means (statements_request c (taking name (without value_name o))) s → IsStatement s)
         → t.method ≡ method → IsIssueRead r t
     read_from t name method q u whole named table flat means spells each oflat omeans ospells oeach method_is =
@@ -281,9 +281,9 @@ module _ (r : Tree) where
 
     pub task_from : (t : VerifyTask) (proof : Tree) (name method value : List ℕ) (q u : List Statement) → proof_parts d ≡ Some (proof, name, method, value)
         → IsKeyTable k t.keys.entries
-        → IsFlat (statements_request c (without proof_name d)) → IsFlatMeaning (statements_request c (without proof_name d)) q → t.quads ≡ map spelled q
+        → IsFlat (statements_request c (without proof_name d)) → IsFlatMeaning (statements_request c (without proof_name d)) q → t.quads ≡ map text_quad q
         → ((s : Statement) → Means (statements_request c (without proof_name d)) s → IsStatement s)
-        → IsFlat (statements_request c (taking name (without value_name proof))) → IsFlatMeaning (statements_request c (taking name (without value_name proof))) u → t.option_quads ≡ map spelled u
+        → IsFlat (statements_request c (taking name (without value_name proof))) → IsFlatMeaning (statements_request c (taking name (without value_name proof))) u → t.option_quads ≡ map text_quad u
         → ((s : Statement) → Means (statements_request c (taking name (without value_name proof))) s → IsStatement s)
         → t.method ≡ method → t.value ≡ value → IsVerifyTask r t
     task_from t proof name method value q u parted table flat means spells each oflat omeans ospells oeach method_is value_is =

@@ -12,7 +12,7 @@ use Rattle.json_tree.specs.declared.tree.Tree.{Tree}
 use Rattle.json_tree.specs.declared.tree.Tree.TheVariants as v
 use Rattle.json_tree.specs.declared.tree.Item.{Item}
 use Rattle.json_tree.specs.declared.tree.Member.{Member}
-use Rattle.json_tree.specs.Trees.{each_next, element, entry, holds_version, is_in_range, is_lawful}
+use Rattle.json_tree.specs.Trees.{each_next, element, new_member, holds_version, is_in_range, is_lawful}
 use Rattle.json_tree.proofs.Rising.{both_hold, left_of, right_of}
 use Rattle.json_tree.proofs.TreeLemmas.{is_lawful-List, is_lawful-Whole}
 use Rattle.json_tree.proofs.Equations.{holds_version-List, holds_version-Whole, is_in_range-List}
@@ -87,17 +87,17 @@ one_more a x ys xs p q = ap (λ (m : Member Tree). m ∷ ys) p ∙ ap (λ (l : L
 pub no_key_is : (t : Tree) (fields : List (Member Tree)) (a b : Member Tree) (key : KeyName) → t ≡ refused_tree fields → fields ≡ a ∷ b ∷ [] → a ≡ text_field (codes "key") (encode_lower key.bytes) → b ≡ named (codes "NoKey") → t ≡ no_key_tree key
 no_key_is t fields a b key is both p q = is ∙ ap refused_tree (both ∙ two_fields a b _ _ p q)
 
-pub rejected_is : (members fields : List (Member Tree)) (a b : Member Tree) (c : Cause) → members ≡ a ∷ b ∷ [] → a ≡ entry (codes "cause") (v.Object fields) → b ≡ entry (codes "verified") (v.Bool false) → fields ≡ cause_fields c → v.Object members ≡ rejected_tree c
+pub rejected_is : (members fields : List (Member Tree)) (a b : Member Tree) (c : Cause) → members ≡ a ∷ b ∷ [] → a ≡ new_member (codes "cause") (v.Object fields) → b ≡ new_member (codes "verified") (v.Bool false) → fields ≡ cause_fields c → v.Object members ≡ rejected_tree c
 rejected_is members fields a b c both p q is =
-    ap v.Object (both ∙ two_fields a b _ _ (p ∙ ap (λ (l : List (Member Tree)). entry (codes "cause") (v.Object l)) is) q)
+    ap v.Object (both ∙ two_fields a b _ _ (p ∙ ap (λ (l : List (Member Tree)). new_member (codes "cause") (v.Object l)) is) q)
 
-pub issued_is : (members : List (Member Tree)) (a b c d : Member Tree) (document : Tree) (mandatory statements : ℕ) → members ≡ a ∷ b ∷ c ∷ d ∷ [] → a ≡ entry (codes "document") document → b ≡ number_field (codes "mandatory") mandatory → c ≡ number_field (codes "statements") statements → d ≡ entry (codes "tie") (v.Bool false) → v.Object members ≡ issued_tree document mandatory statements
+pub issued_is : (members : List (Member Tree)) (a b c d : Member Tree) (document : Tree) (mandatory statements : ℕ) → members ≡ a ∷ b ∷ c ∷ d ∷ [] → a ≡ new_member (codes "document") document → b ≡ number_field (codes "mandatory") mandatory → c ≡ number_field (codes "statements") statements → d ≡ new_member (codes "tie") (v.Bool false) → v.Object members ≡ issued_tree document mandatory statements
 issued_is members a b c d document mandatory statements all p q r s =
     ap v.Object (all ∙ one_more a _ _ _ p (one_more b _ _ _ q (two_fields c d _ _ r s)))
 
-pub verified_is : (members : List (Member Tree)) (a b c d e f g : Member Tree) (issuer key : KeyName) (labels : List (Member Tree)) (items : List (Item Tree)) (seen indexes : List ℕ) (statements : ℕ) → members ≡ a ∷ b ∷ c ∷ d ∷ e ∷ f ∷ g ∷ [] → a ≡ text_field (codes "key") (encode_lower issuer.bytes) → labels ≡ [] → b ≡ entry (codes "labels") (v.Object labels) → seen ≡ indexes → items ≡ whole_items 0 seen → c ≡ entry (codes "mandatory") (v.List items) → d ≡ text_field (codes "statementKey") (encode_lower key.bytes) → e ≡ number_field (codes "statements") statements → f ≡ entry (codes "tie") (v.Bool false) → g ≡ entry (codes "verified") (v.Bool true) → v.Object members ≡ verified_tree issuer indexes key statements
+pub verified_is : (members : List (Member Tree)) (a b c d e f g : Member Tree) (issuer key : KeyName) (labels : List (Member Tree)) (items : List (Item Tree)) (seen indexes : List ℕ) (statements : ℕ) → members ≡ a ∷ b ∷ c ∷ d ∷ e ∷ f ∷ g ∷ [] → a ≡ text_field (codes "key") (encode_lower issuer.bytes) → labels ≡ [] → b ≡ new_member (codes "labels") (v.Object labels) → seen ≡ indexes → items ≡ whole_items 0 seen → c ≡ new_member (codes "mandatory") (v.List items) → d ≡ text_field (codes "statementKey") (encode_lower key.bytes) → e ≡ number_field (codes "statements") statements → f ≡ new_member (codes "tie") (v.Bool false) → g ≡ new_member (codes "verified") (v.Bool true) → v.Object members ≡ verified_tree issuer indexes key statements
 verified_is members a b c d e f g issuer key labels items seen indexes statements all p none q same is r s t u w =
-    let empty : b ≡ entry (codes "labels") (v.Object []) = q ∙ ap (λ (l : List (Member Tree)). entry (codes "labels") (v.Object l)) none in
+    let empty : b ≡ new_member (codes "labels") (v.Object []) = q ∙ ap (λ (l : List (Member Tree)). new_member (codes "labels") (v.Object l)) none in
     let numbers : items ≡ whole_items 0 indexes = is ∙ ap (whole_items 0) same in
-    let listed : c ≡ entry (codes "mandatory") (v.List (whole_items 0 indexes)) = r ∙ ap (λ (l : List (Item Tree)). entry (codes "mandatory") (v.List l)) numbers in
+    let listed : c ≡ new_member (codes "mandatory") (v.List (whole_items 0 indexes)) = r ∙ ap (λ (l : List (Item Tree)). new_member (codes "mandatory") (v.List l)) numbers in
     ap v.Object (all ∙ one_more a _ _ _ p (one_more b _ _ _ empty (one_more c _ _ _ listed (one_more d _ _ _ s (one_more e _ _ _ t (two_fields f g _ _ u w))))))

@@ -11,7 +11,7 @@ use Rattle.base_types.proofs.Lists.{Contains-here, Contains-there, Contains-cons
 use Rattle.json_tree.specs.declared.tree.Tree.{Tree}
 use Rattle.json_tree.specs.declared.tree.Tree.TheVariants as v
 use Rattle.json_tree.specs.declared.tree.Member.{Member}
-use Rattle.json_tree.specs.Trees.{each_next, entry, holds_version, is_before, is_in_range, is_lawful}
+use Rattle.json_tree.specs.Trees.{each_next, new_member, holds_version, is_before, is_in_range, is_lawful}
 use Rattle.json_tree.proofs.Rising.{NamesRise, left_of, right_of, both_hold, is_before-differs}
 use Rattle.json_tree.proofs.TreeLemmas.{is_lawful-Object, is_lawful-Text}
 use Rattle.json_tree.proofs.Equations.{is_in_range-Object, is_in_range-Text, holds_version-Object, holds_version-Text}
@@ -100,21 +100,21 @@ module _ (x : Member Tree) where
 
 -- ---- objects with a member more
 
-pub with_member-Object : (key : List ℕ) (value : Tree) (ms : List (Member Tree)) → with_member key value (v.Object ms) ≡ v.Object (put_member (entry key value) ms)
-with_member-Object key value ms = ap (changed_in (put_member (entry key value)) (v.Object ms)) (v.outs-Object ms)
+pub with_member-Object : (key : List ℕ) (value : Tree) (ms : List (Member Tree)) → with_member key value (v.Object ms) ≡ v.Object (put_member (new_member key value) ms)
+with_member-Object key value ms = ap (changed_in (put_member (new_member key value)) (v.Object ms)) (v.outs-Object ms)
 
 pub with_member-lawful : (key : List ℕ) (value : Tree) (ms : List (Member Tree)) → is_lawful value ≡ true → is_lawful (v.Object ms) ≡ true → is_lawful (with_member key value (v.Object ms)) ≡ true
 with_member-lawful key value ms one all =
     let parts = sym (is_lawful-Object ms) ∙ all in
-    ap is_lawful (with_member-Object key value ms) ∙ is_lawful-Object (put_member (entry key value) ms)
-    ∙ both_hold (each_next (λ m n. is_before m.key n.key) (put_member (entry key value) ms)) _
-    (put_rises (entry key value) ms (left_of (each_next (λ m n. is_before m.key n.key) ms) _ parts))
-    (put_all (entry key value) (λ m. is_lawful m.value) ms one (right_of (each_next (λ m n. is_before m.key n.key) ms) _ parts))
+    ap is_lawful (with_member-Object key value ms) ∙ is_lawful-Object (put_member (new_member key value) ms)
+    ∙ both_hold (each_next (λ m n. is_before m.key n.key) (put_member (new_member key value) ms)) _
+    (put_rises (new_member key value) ms (left_of (each_next (λ m n. is_before m.key n.key) ms) _ parts))
+    (put_all (new_member key value) (λ m. is_lawful m.value) ms one (right_of (each_next (λ m n. is_before m.key n.key) ms) _ parts))
 
 with_member-in_range : (key : List ℕ) (value : Tree) (ms : List (Member Tree)) → is_in_range value ≡ true → is_in_range (v.Object ms) ≡ true → is_in_range (with_member key value (v.Object ms)) ≡ true
 with_member-in_range key value ms one all =
-    ap is_in_range (with_member-Object key value ms) ∙ is_in_range-Object (put_member (entry key value) ms)
-    ∙ put_all (entry key value) (λ m. is_in_range m.value) ms one (sym (is_in_range-Object ms) ∙ all)
+    ap is_in_range (with_member-Object key value ms) ∙ is_in_range-Object (put_member (new_member key value) ms)
+    ∙ put_all (new_member key value) (λ m. is_in_range m.value) ms one (sym (is_in_range-Object ms) ∙ all)
 
 so_not : (b : Bool) → not b ≡ true → b ≡ false
 so_not true h = absurd (cc)
@@ -139,9 +139,9 @@ all_of p (x ∷ xs) h = both_hold (not (p x)) _ (ap not (no_left (p x) _ h)) (al
 
 with_member-whole : (key : List ℕ) (value : Tree) (ms : List (Member Tree)) → holds_version value ≡ false → holds_version (v.Object ms) ≡ false → holds_version (with_member key value (v.Object ms)) ≡ false
 with_member-whole key value ms one all =
-    ap holds_version (with_member-Object key value ms) ∙ holds_version-Object (put_member (entry key value) ms)
-    ∙ none_of (λ m. holds_version m.value) (put_member (entry key value) ms)
-    (put_all (entry key value) (λ m. not (holds_version m.value)) ms (ap not one) (all_of (λ m. holds_version m.value) ms (sym (holds_version-Object ms) ∙ all)))
+    ap holds_version (with_member-Object key value ms) ∙ holds_version-Object (put_member (new_member key value) ms)
+    ∙ none_of (λ m. holds_version m.value) (put_member (new_member key value) ms)
+    (put_all (new_member key value) (λ m. not (holds_version m.value)) ms (ap not one) (all_of (λ m. holds_version m.value) ms (sym (holds_version-Object ms) ∙ all)))
 
 pub with_member-printable : (key : List ℕ) (value t : Tree) → IsPrintable value → IsObject t → IsPrintable t → IsPrintable (with_member key value t)
 with_member-printable key value t one o all =
@@ -158,7 +158,7 @@ text_printable text = record { lawful = is_lawful-Text text; in_range = is_in_ra
 -- ---- places that are filled
 
 -- another value at an index
-pub filled_set : (ms : List (Member Tree)) (at : ℕ) (value : Tree) (d : Member Tree) → at < length ms → set ms at (entry (get_or ms at d).key value) ≡ filled ms at value
+pub filled_set : (ms : List (Member Tree)) (at : ℕ) (value : Tree) (d : Member Tree) → at < length ms → set ms at (new_member (get_or ms at d).key value) ≡ filled ms at value
 filled_set [] at value d h = absurd (omega arith)
 filled_set (m ∷ ms) zero value d h = refl
 filled_set (m ∷ ms) (suc at) value d h = ap (λ (l : List (Member Tree)). m ∷ l) (filled_set ms at value d (omega arith))
@@ -170,7 +170,7 @@ module _ (key : List ℕ) (value : Tree) where
   goes : (m : Member Tree) (ms : List (Member Tree)) → (is_before key m.key || bytes_eq key m.key) ≡ false → place_of key (m ∷ ms) ≡ suc (place_of key ms)
   goes m ms h = rw h refl
 
-  pub fill_own : (ms : List (Member Tree)) (d : Member Tree) → place_of key ms < length ms → bytes_eq (get_or ms (place_of key ms) d).key key ≡ true → filled ms (place_of key ms) value ≡ put_member (entry key value) ms
+  pub fill_own : (ms : List (Member Tree)) (d : Member Tree) → place_of key ms < length ms → bytes_eq (get_or ms (place_of key ms) d).key key ≡ true → filled ms (place_of key ms) value ≡ put_member (new_member key value) ms
   fill_own [] d h e = absurd (omega arith)
   fill_own (m ∷ ms) d h e =
       elim (cases_Bool (is_before key m.key)) [
@@ -185,22 +185,22 @@ module _ (key : List ℕ) (value : Tree) where
           | inl same ↦
               let here : place_of key (m ∷ ms) ≡ 0 = stops m ms (rw (high, same) refl) in
               let there : m.key ≡ key = sym (same_text key m.key same) in
-              rw (here, put_instead (entry key value) m ms high same) (ap (λ (k : List ℕ). entry k value ∷ ms) there)
+              rw (here, put_instead (new_member key value) m ms high same) (ap (λ (k : List ℕ). new_member k value ∷ ms) there)
           | inr other ↦
               let on : place_of key (m ∷ ms) ≡ suc (place_of key ms) = goes m ms (rw (high, other) refl) in
               let later : bytes_eq (get_or ms (place_of key ms) d).key key ≡ true = rw on at e in
               let within : place_of key ms < length ms = omega (arith, on, h) in
-              rw (on, put_after (entry key value) m ms high other) (ap (λ (l : List (Member Tree)). m ∷ l) (fill_own ms d within later))
+              rw (on, put_after (new_member key value) m ms high other) (ap (λ (l : List (Member Tree)). m ∷ l) (fill_own ms d within later))
         ]
       ]
 
-  pub fill_new : (w : Tree) (ms : List (Member Tree)) (d : Member Tree) → (place_of key ms ≡ length ms) ⊎ (bytes_eq (get_or ms (place_of key ms) d).key key ≡ false) → filled (insert ms (place_of key ms) (entry key w)) (place_of key ms) value ≡ put_member (entry key value) ms
+  pub fill_new : (w : Tree) (ms : List (Member Tree)) (d : Member Tree) → (place_of key ms ≡ length ms) ⊎ (bytes_eq (get_or ms (place_of key ms) d).key key ≡ false) → filled (insert ms (place_of key ms) (new_member key w)) (place_of key ms) value ≡ put_member (new_member key value) ms
   fill_new w [] d h = refl
   fill_new w (m ∷ ms) d h =
       elim (cases_Bool (is_before key m.key)) [
         | inl low ↦
             let here : place_of key (m ∷ ms) ≡ 0 = stops m ms (rw low refl) in
-            rw (here, put_before (entry key value) m ms low) refl
+            rw (here, put_before (new_member key value) m ms low) refl
         | inr high ↦ elim (cases_Bool (bytes_eq key m.key)) [
           | inl same ↦
               let here : place_of key (m ∷ ms) ≡ 0 = stops m ms (rw (high, same) refl) in
@@ -209,6 +209,6 @@ module _ (key : List ℕ) (value : Tree) where
           | inr other ↦
               let on : place_of key (m ∷ ms) ≡ suc (place_of key ms) = goes m ms (rw (high, other) refl) in
               let rest : (place_of key ms ≡ length ms) ⊎ (bytes_eq (get_or ms (place_of key ms) d).key key ≡ false) = elim h [ inl e ↦ inl (omega (arith, on, e)) | inr e ↦ inr (rw on at e) ] in
-              rw (on, put_after (entry key value) m ms high other) (ap (λ (l : List (Member Tree)). m ∷ l) (fill_new w ms d rest))
+              rw (on, put_after (new_member key value) m ms high other) (ap (λ (l : List (Member Tree)). m ∷ l) (fill_new w ms d rest))
         ]
       ]

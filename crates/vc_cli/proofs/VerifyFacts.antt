@@ -10,7 +10,7 @@ use Rattle.std.proofs.lemmas.List.Elements.{All-from_get_or}
 use Rattle.std.proofs.lemmas.Option.{get_or_from_slice_get, slice_get-get_or}
 use Rattle.base_types.proofs.Lists.{Contains-here, Contains-there, Contains-nil}
 use Rattle.base_types.proofs.Rising.{rising-same}
-use Rattle.cbor_core.specs.Writing.{rise}
+use Rattle.base_types.specs.Order.{rise}
 use Rattle.json_tree.specs.declared.tree.Tree.{Tree}
 use Rattle.key_device.specs.declared.keys.KeyName.{KeyName}
 use Rattle.key_device.specs.Devices.{Acceptance}
@@ -25,7 +25,7 @@ use Rattle.proof_cbor.specs.Reading.{reading_derived}
 use Rattle.stmt_groups.specs.declared.types.Cause.{Cause}
 use Rattle.stmt_groups.specs.declared.types.Cause.TheVariants as cause
 use Rattle.stmt_groups.specs.Lines.{lines_at, other_lines}
-use Rattle.stmt_groups.specs.Records.{base_bytes}
+use Rattle.stmt_groups.specs.Records.{sign_data}
 use Rattle.stmt_groups.specs.Proofs.{AreBelow}
 use Rattle.stmt_groups.proofs.LineLemmas.{no_other_line, other_lines-length}
 use Rattle.stmt_groups.proofs.Naming.{covered_names_one}
@@ -152,11 +152,11 @@ module _ (r : Tree) (t : VerifyTask) (w : IsVerifyTask r t) (value : DerivedValu
     }
 
     -- the bytes that were checked
-    pub checked_are : (option_lines : List (List ℕ)) (bytes : List ℕ) → option_lines ≡ canonical_lines no_label w.option_statements → bytes ≡ base_bytes option_lines (key_name value.key) lines → bytes ≡ checked_bytes case_of
+    pub checked_are : (option_lines : List (List ℕ)) (bytes : List ℕ) → option_lines ≡ canonical_lines no_label w.option_statements → bytes ≡ sign_data option_lines (key_name value.key) lines → bytes ≡ checked_bytes case_of
     checked_are option_lines bytes options_are is =
         let all : lines_at value.indexes lines ≡ lines = no_other_line value.indexes lines h.2 in
-        is ∙ ap (λ (ls : List (List ℕ)). base_bytes ls (key_name value.key) lines) options_are ∙ ap (base_bytes (canonical_lines no_label w.option_statements) (key_name value.key)) (sym all)
-        ∙ ap (λ (ls : List (List ℕ)). base_bytes (canonical_lines no_label w.option_statements) (key_name value.key) (lines_at value.indexes ls)) are
+        is ∙ ap (λ (ls : List (List ℕ)). sign_data ls (key_name value.key) lines) options_are ∙ ap (sign_data (canonical_lines no_label w.option_statements) (key_name value.key)) (sym all)
+        ∙ ap (λ (ls : List (List ℕ)). sign_data (canonical_lines no_label w.option_statements) (key_name value.key) (lines_at value.indexes ls)) are
 
     pub is_yes : (accepts : Acceptance) (issuer : KeyName) (bytes : List ℕ) → bytes ≡ checked_bytes case_of → key_for t.keys.entries t.method ≡ Some issuer → true ≡ accepts issuer bytes (signature value.signature) → IsYes accepts case_of issuer
     is_yes accepts issuer bytes checked found said =

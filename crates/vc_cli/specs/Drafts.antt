@@ -4,7 +4,7 @@ use Rattle.std.specs.Str.{bytes_eq}
 use Rattle.json_tree.specs.declared.tree.Tree.{Tree}
 use Rattle.json_tree.specs.declared.tree.Tree.TheVariants as v
 use Rattle.json_tree.specs.declared.tree.Member.{Member}
-use Rattle.json_tree.specs.Trees.{entry, holds_version, is_before, is_in_range, is_lawful}
+use Rattle.json_tree.specs.Trees.{new_member, holds_version, is_before, is_in_range, is_lawful}
 use Rattle.vc_cli.specs.declared.secured.Slot.{Slot}
 use Rattle.vc_cli.specs.declared.secured.Draft.{Draft}
 
@@ -22,7 +22,7 @@ is_named (m ∷ ms) (suc n) key = is_named ms n key
 -- the members with another value at that index
 abbrev pub filled : List (Member Tree) → ℕ → Tree → List (Member Tree)
 filled [] n value = []
-filled (m ∷ ms) zero value = entry m.key value ∷ ms
+filled (m ∷ ms) zero value = new_member m.key value ∷ ms
 filled (m ∷ ms) (suc n) value = m ∷ filled ms n value
 
 abbrev pub filled_object : Slot → Tree → Tree

@@ -11,7 +11,7 @@ use Rattle.proof_cbor.specs.declared.value.BaseValue.{BaseValue}
 use Rattle.proof_cbor.specs.Values.{SpellsBase}
 use Rattle.ld_rdf.specs.Flat.{IsFlatMeaning}
 use Rattle.stmt_groups.specs.declared.types.BaseRecord.{BaseRecord}
-use Rattle.stmt_groups.specs.Records.{IsRecord, base_bytes}
+use Rattle.stmt_groups.specs.Records.{IsRecord, sign_data}
 use Rattle.vc_cli.specs.Requests.{IssueParts, IsIssue, issue_body, issue_options, secured}
 
 -- no blank node has a label
@@ -59,8 +59,8 @@ pub record IsIssued (before after : DeviceMeaning) (c : IssueCase) (document : T
   pub pointers : value.pointers ≡ [] ∷ []
   pub issuer : key_for c.parts.table c.parts.method ≡ Some made.issuer
   pub is_record : IsRecord no_label no_label c.statements c.statements c.options made
-  pub accepted : after.accepts made.issuer (base_bytes made.options made.key made.mandatory) signature ≡ true
-  pub grew : GrewBy (devices.entry made.issuer (base_bytes made.options made.key made.mandatory) signature) before.signed after.signed
+  pub accepted : after.accepts made.issuer (sign_data made.options made.key made.mandatory) signature ≡ true
+  pub grew : GrewBy (devices.log_entry made.issuer (sign_data made.options made.key made.mandatory) signature) before.signed after.signed
   pub fresh : before.exact ≡ true → before.owns made.key ≡ false
   pub owned : after.owns made.key ≡ true
   pub issuer_owned : after.owns made.issuer ≡ true

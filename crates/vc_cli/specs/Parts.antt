@@ -7,9 +7,9 @@ use Rattle.json_tree.specs.declared.tree.Tree.{Tree}
 use Rattle.json_tree.specs.declared.tree.Tree.TheVariants as v
 use Rattle.json_tree.specs.declared.tree.Member.{Member}
 use Rattle.json_tree.specs.Places.{look, members_of, text_of}
-use Rattle.json_tree.specs.Trees.{entry}
+use Rattle.json_tree.specs.Trees.{new_member}
 use Rattle.nquads.specs.Terms.{IsStatement}
-use Rattle.nquads.specs.Spelling.{spelled}
+use Rattle.nquads.specs.Spelling.{text_quad}
 use Rattle.ld_rdf.specs.Flat.{at_context}
 use Rattle.ld_rdf.specs.Parts.{provided}
 use Rattle.vc_cli.specs.Requests.{at, proof_name, value_name}
@@ -18,7 +18,7 @@ use Rattle.vc_cli.specs.declared.requests.IssueRead.{IssueRead}
 
 -- the members of a request for issuing, with any list of pointers
 abbrev pub issue_object : Tree → Tree → Tree → Tree → Tree → Tree
-issue_object c d k m o = v.Object (entry (codes "contexts") c ∷ entry (codes "document") d ∷ entry (codes "keys") k ∷ entry (codes "mandatory") m ∷ entry (codes "options") o ∷ [])
+issue_object c d k m o = v.Object (new_member (codes "contexts") c ∷ new_member (codes "document") d ∷ new_member (codes "keys") k ∷ new_member (codes "mandatory") m ∷ new_member (codes "options") o ∷ [])
 
 -- the values of these five members, where there is no other
 abbrev pub five_in : List (Member Tree) → Option (Tree × Tree × Tree × Tree × Tree)
@@ -86,7 +86,7 @@ pub record IsIssueRead (r : Tree) (t : IssueRead) : Type 0 where
   pub is_case : IsIssueCase r case_of
   pub method : t.method ≡ case_of.parts.method
   pub keys : t.keys.entries ≡ case_of.parts.table
-  pub quads : t.quads ≡ map spelled case_of.statements
-  pub option_quads : t.option_quads ≡ map spelled case_of.options
+  pub quads : t.quads ≡ map text_quad case_of.statements
+  pub option_quads : t.option_quads ≡ map text_quad case_of.options
   pub are_statements : All IsStatement case_of.statements
   pub are_options : All IsStatement case_of.options

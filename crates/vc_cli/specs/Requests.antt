@@ -8,7 +8,7 @@ use Rattle.json_tree.specs.declared.tree.Member.{Member}
 use Rattle.json_tree.specs.declared.place.Step.{Step}
 use Rattle.json_tree.specs.declared.place.Step.TheVariants.{Key}
 use Rattle.json_tree.specs.Places.{look}
-use Rattle.json_tree.specs.Trees.{element, entry}
+use Rattle.json_tree.specs.Trees.{element, new_member}
 use Rattle.key_device.specs.declared.table.KeyEntry.{KeyEntry}
 use Rattle.ld_rdf.specs.Flat.{HasText, IsFlat, at_context}
 use Rattle.ld_rdf.specs.Reduced.{statements_request, taking, with_member, without}
@@ -74,7 +74,7 @@ issue_options p = statements_request p.contexts (taking p.name p.options)
 -- A flat request for issuing: exactly these members, every statement mandatory, a flat document without a
 -- proof, and flat options of the right shape.
 pub record IsIssue (r : Tree) (p : IssueParts) : Type 0 where
-  pub is : r ≡ v.Object (entry (codes "contexts") p.contexts ∷ entry (codes "document") p.document ∷ entry (codes "keys") p.keys ∷ entry (codes "mandatory") whole_document ∷ entry (codes "options") p.options ∷ [])
+  pub is : r ≡ v.Object (new_member (codes "contexts") p.contexts ∷ new_member (codes "document") p.document ∷ new_member (codes "keys") p.keys ∷ new_member (codes "mandatory") whole_document ∷ new_member (codes "options") p.options ∷ [])
   pub document : IsFlat (issue_body p)
   pub unsecured : look (at proof_name) p.document ≡ None
   pub named : HasText (at at_context) p.document p.name
@@ -114,7 +114,7 @@ verify_options p = statements_request p.contexts (taking p.name (options_of p))
 -- A flat request for verifying: exactly these members, a document that is flat without its proof, and a proof
 -- with a value whose options are flat and of the right shape.
 pub record IsVerify (r : Tree) (p : VerifyParts) : Type 0 where
-  pub is : r ≡ v.Object (entry (codes "contexts") p.contexts ∷ entry (codes "document") p.document ∷ entry (codes "keys") p.keys ∷ [])
+  pub is : r ≡ v.Object (new_member (codes "contexts") p.contexts ∷ new_member (codes "document") p.document ∷ new_member (codes "keys") p.keys ∷ [])
   pub document : IsFlat (verify_body p)
   pub secured : look (at proof_name) p.document ≡ Some p.proof
   pub named : HasText (at at_context) p.document p.name

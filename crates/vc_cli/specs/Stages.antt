@@ -3,7 +3,7 @@
 use Rattle.std.specs.Prelude.{◌≡◌, ◌≢◌, ◌⊎◌, ℕ, false, true, List, [], ◌∷◌, Option, Some, None, Result, Ok, Err, length, replicate}
 use Rattle.base_types.specs.Counts.{HasRisen}
 use Rattle.vc_io.specs.Bytes.{IsMoreThan}
-use Rattle.cbor_core.specs.Writing.{rise}
+use Rattle.base_types.specs.Order.{rise}
 use Rattle.json_tree.specs.declared.place.Place.{Place}
 use Rattle.json_tree.specs.declared.tree.Tree.{Tree}
 use Rattle.json_tree.specs.declared.tree.TreeFault.TheVariants as fault

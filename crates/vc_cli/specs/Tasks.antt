@@ -3,7 +3,7 @@ use Rattle.std.specs.Prelude.{◌≡◌, true, List, map, All}
 use Rattle.json_tree.specs.declared.tree.Tree.{Tree}
 use Rattle.json_tree.specs.Trees.{is_lawful, is_in_range}
 use Rattle.nquads.specs.Terms.{IsStatement, Statement}
-use Rattle.nquads.specs.Spelling.{spelled}
+use Rattle.nquads.specs.Spelling.{text_quad}
 use Rattle.ld_rdf.specs.Flat.{IsFlatMeaning}
 use Rattle.vc_cli.specs.declared.tasks.IssueTask.{IssueTask}
 use Rattle.vc_cli.specs.declared.tasks.VerifyTask.{VerifyTask}
@@ -18,8 +18,8 @@ pub record IsIssueTask (r : Tree) (t : IssueTask) : Type 0 where
   pub options : t.options ≡ case_of.parts.options
   pub method : t.method ≡ case_of.parts.method
   pub keys : t.keys.entries ≡ case_of.parts.table
-  pub quads : t.quads ≡ map spelled case_of.statements
-  pub option_quads : t.option_quads ≡ map spelled case_of.options
+  pub quads : t.quads ≡ map text_quad case_of.statements
+  pub option_quads : t.option_quads ≡ map text_quad case_of.options
   pub are_statements : All IsStatement case_of.statements
   pub are_options : All IsStatement case_of.options
   pub lawful : (is_lawful t.document ≡ true) × (is_lawful t.options ≡ true)
@@ -36,7 +36,7 @@ pub record IsVerifyTask (r : Tree) (t : VerifyTask) : Type 0 where
   pub method : t.method ≡ parts.method
   pub value : t.value ≡ parts.value
   pub keys : t.keys.entries ≡ parts.table
-  pub quads : t.quads ≡ map spelled statements
-  pub option_quads : t.option_quads ≡ map spelled option_statements
+  pub quads : t.quads ≡ map text_quad statements
+  pub option_quads : t.option_quads ≡ map text_quad option_statements
   pub are_statements : All IsStatement statements
   pub are_options : All IsStatement option_statements

@@ -14,8 +14,8 @@ use Rattle.stmt_groups.specs.declared.types.BaseRecord.{BaseRecord}
 use Rattle.stmt_groups.specs.declared.types.Cause.{Cause}
 use Rattle.stmt_groups.specs.declared.types.Cause.TheVariants as cause
 use Rattle.stmt_groups.specs.Lines.{lines_at, other_lines}
-use Rattle.stmt_groups.specs.Records.{base_bytes}
-use Rattle.stmt_groups.specs.Proofs.{AreBelow, IsCounted, IsGood, Shown}
+use Rattle.stmt_groups.specs.Records.{sign_data}
+use Rattle.stmt_groups.specs.Proofs.{AreBelow, IsCounted, IsGood, DerivedProof}
 use Rattle.stmt_groups.specs.Soundness.{IsCovered, NamesOne}
 use Rattle.vc_cli.specs.Requests.{VerifyParts, IsVerify, verify_body, verify_options}
 use Rattle.vc_cli.specs.Issuing.{no_label}
@@ -28,7 +28,7 @@ abbrev pub signature : List ℕ → Signature
 signature bytes = record { bytes = bytes }
 
 -- what a derived value says beside its label map
-abbrev pub shown_by : DerivedValue → Shown
+abbrev pub shown_by : DerivedValue → DerivedProof
 shown_by value = record { key = key_name value.key; signature = signature value.signature; signatures = map signature value.signatures; indexes = value.indexes }
 
 -- a value for statements that have no blank nodes and are all mandatory
@@ -71,7 +71,7 @@ pub record IsRight (c : VerifyCase) : Type 0 where
 
 -- the bytes that the issuer's signature is checked on
 abbrev pub checked_bytes : VerifyCase → List ℕ
-checked_bytes c = base_bytes (option_lines_of c) (key_name c.value.key) (lines_at c.value.indexes (lines_of c))
+checked_bytes c = sign_data (option_lines_of c) (key_name c.value.key) (lines_at c.value.indexes (lines_of c))
 
 -- The document does not verify, and this is the cause: the first that applies.
 abbrev pub HasCause : Acceptance → VerifyCase → Cause → Type 0

@@ -6,7 +6,7 @@ use Rattle.json_tree.specs.declared.tree.Tree.{Tree}
 use Rattle.json_tree.specs.declared.tree.Tree.TheVariants as v
 use Rattle.json_tree.specs.declared.tree.Item.{Item}
 use Rattle.json_tree.specs.declared.tree.Member.{Member}
-use Rattle.json_tree.specs.Trees.{element, entry}
+use Rattle.json_tree.specs.Trees.{element, new_member}
 use Rattle.json_tree.specs.Prints.{data_of}
 use Rattle.key_device.specs.declared.keys.KeyName.{KeyName}
 use Rattle.cbor_core.specs.declared.fault.CborFault.{CborFault}
@@ -24,10 +24,10 @@ line_of t = compact_text (data_of t) ++ 10 ∷ []
 
 -- a member whose value is a text, a whole number or an object
 abbrev pub text_field : List ℕ → List ℕ → Member Tree
-text_field name text = entry name (v.Text text)
+text_field name text = new_member name (v.Text text)
 
 abbrev pub number_field : List ℕ → ℕ → Member Tree
-number_field name n = entry name (v.Whole (pos n))
+number_field name n = new_member name (v.Whole (pos n))
 
 -- the member `name` of a refusal or of a cause
 abbrev pub named : List ℕ → Member Tree
@@ -40,7 +40,7 @@ whole_items from (n ∷ ns) = element from (v.Whole (pos n)) ∷ whole_items (fr
 
 -- a refusal with these fields
 abbrev pub refused_tree : List (Member Tree) → Tree
-refused_tree fields = v.Object (entry (codes "refused") (v.Object fields) ∷ [])
+refused_tree fields = v.Object (new_member (codes "refused") (v.Object fields) ∷ [])
 
 abbrev pub unknown_method_tree : List ℕ → Tree
 unknown_method_tree method = refused_tree (text_field (codes "method") method ∷ named (codes "UnknownMethod") ∷ [])
@@ -98,18 +98,18 @@ proof_value_tree fault = refused_tree (value_fields fault)
 
 -- the issued document, and how many statements are mandatory and are there
 abbrev pub issued_tree : Tree → ℕ → ℕ → Tree
-issued_tree document mandatory statements = v.Object (entry (codes "document") document ∷ number_field (codes "mandatory") mandatory ∷ number_field (codes "statements") statements ∷ entry (codes "tie") (v.Bool false) ∷ [])
+issued_tree document mandatory statements = v.Object (new_member (codes "document") document ∷ number_field (codes "mandatory") mandatory ∷ number_field (codes "statements") statements ∷ new_member (codes "tie") (v.Bool false) ∷ [])
 
 -- a yes: the issuer key, the label map, the mandatory indexes, the statement key and the number of statements
 abbrev pub verified_tree : KeyName → List ℕ → KeyName → ℕ → Tree
 verified_tree issuer indexes key statements = v.Object (
     text_field (codes "key") (encode_lower issuer.bytes)
-    ∷ entry (codes "labels") (v.Object [])
-    ∷ entry (codes "mandatory") (v.List (whole_items 0 indexes))
+    ∷ new_member (codes "labels") (v.Object [])
+    ∷ new_member (codes "mandatory") (v.List (whole_items 0 indexes))
     ∷ text_field (codes "statementKey") (encode_lower key.bytes)
     ∷ number_field (codes "statements") statements
-    ∷ entry (codes "tie") (v.Bool false)
-    ∷ entry (codes "verified") (v.Bool true) ∷ [])
+    ∷ new_member (codes "tie") (v.Bool false)
+    ∷ new_member (codes "verified") (v.Bool true) ∷ [])
 
 abbrev pub cause_fields : Cause → List (Member Tree)
 cause_fields cause.Nothing = named (codes "Nothing") ∷ []
@@ -122,4 +122,4 @@ cause_fields (cause.StatementSignature k) = number_field (codes "index") k ∷ n
 
 -- a no, with its cause
 abbrev pub rejected_tree : Cause → Tree
-rejected_tree c = v.Object (entry (codes "cause") (v.Object (cause_fields c)) ∷ entry (codes "verified") (v.Bool false) ∷ [])
+rejected_tree c = v.Object (new_member (codes "cause") (v.Object (cause_fields c)) ∷ new_member (codes "verified") (v.Bool false) ∷ [])

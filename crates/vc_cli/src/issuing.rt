@@ -7,10 +7,10 @@ ghost use Rattle.json_tree.specs.declared.tree.Tree.{Tree as AnyTree};
 ghost use Rattle.key_device.specs.Devices.{IsSecretTold};
 ghost use Rattle.key_device.specs.declared.device.DeviceError.TheVariants.{Failed, NoKey};
 ghost use Rattle.nquads.specs.Terms.{Statement};
-ghost use Rattle.nquads.specs.Spelling.{spelled};
+ghost use Rattle.nquads.specs.Spelling.{text_quad};
 ghost use Rattle.nquads.specs.Texts.{Names};
 ghost use Rattle.proof_cbor.specs.Values.{IsDraft, CanWriteBase};
-ghost use Rattle.stmt_groups.specs.Records.{IsRecord, base_bytes as bytes_of};
+ghost use Rattle.stmt_groups.specs.Records.{IsRecord, sign_data as bytes_of};
 ghost use Rattle.vc_cli.specs.Drafts.{IsObject, IsPrintable, finished};
 ghost use Rattle.vc_cli.specs.Requests.{secured};
 ghost use Rattle.vc_cli.specs.Issuing.{meaning, no_label};
@@ -151,7 +151,7 @@ fn prepare(
         × (d.secured.options.at < length d.secured.options.members.items)) }
     ensures issuer { IfOk result (λ d. d.record.issuer ≡ issuer) }
     ensures key { IfOk result (λ d. d.record.key ≡ fresh.now.key) }
-    ensures record_is { (q o : List Statement) → task.quads ≡ map spelled q → task.option_quads ≡ map spelled o
+    ensures record_is { (q o : List Statement) → task.quads ≡ map text_quad q → task.option_quads ≡ map text_quad o
         → IfOk result (λ d. IsRecord no_label no_label q q o d.record) }
     ensures bytes { IfOk result (λ d. d.bytes.items ≡ bytes_of d.record.options d.record.key d.record.mandatory) }
     ensures value { IfOk result (λ d. IsDraft (whole_value fresh.now.key.bytes fresh.now.secret no_signature) d.value) }
@@ -187,7 +187,7 @@ fn record(
     requires option_quads { All (Names []) option_quads.now }
     ensures issuer { IfOk result (λ made. made.issuer ≡ issuer) }
     ensures key { IfOk result (λ made. made.key ≡ key) }
-    ensures is { (q o : List Statement) → quads.now ≡ map spelled q → option_quads.now ≡ map spelled o
+    ensures is { (q o : List Statement) → quads.now ≡ map text_quad q → option_quads.now ≡ map text_quad o
         → IfOk result (λ made. IsRecord no_label no_label q q o made) }
 {
     let mandatory = lines_of(alloc, quads)?;

@@ -4,10 +4,10 @@ ghost use Rattle.std.specs.Prelude.{◌≡◌, [], List, map, All, IfOk};
 ghost use Rattle.std.specs.List.{concat};
 ghost use Rattle.sha2.specs.Sha256.{sha256};
 ghost use Rattle.nquads.specs.Terms.{Statement};
-ghost use Rattle.nquads.specs.Spelling.{spelled};
+ghost use Rattle.nquads.specs.Spelling.{text_quad};
 ghost use Rattle.nquads.specs.Lines.{canonical_lines, line};
 ghost use Rattle.nquads.specs.Texts.{Names};
-ghost use Rattle.stmt_groups.specs.Records.{base_bytes as bytes_of};
+ghost use Rattle.stmt_groups.specs.Records.{sign_data as bytes_of};
 ghost use Rattle.vc_cli.specs.Issuing.{no_label};
 
 use key_device::KeyName;
@@ -17,7 +17,7 @@ use std::alloc::Global;
 /// The canonical lines of a dataset without blank nodes (RDF Dataset Canonicalization, 4.4).
 pub(crate) fn lines_of(alloc: Global, quads: &TextQuads) -> Result<Sequence<Text>, Memory>
     requires { All (Names []) quads.now }
-    ensures { (q : List Statement) → quads.now ≡ map spelled q → IfOk result (λ lines. lines ≡ canonical_lines no_label q) }
+    ensures { (q : List Statement) → quads.now ≡ map text_quad q → IfOk result (λ lines. lines ≡ canonical_lines no_label q) }
 {
     let mut lines = written(alloc, quads.as_slice())?;
     lines.sort_unstable();
@@ -28,7 +28,7 @@ pub(crate) fn lines_of(alloc: Global, quads: &TextQuads) -> Result<Sequence<Text
 /// The line of each statement, in their order.
 fn written(alloc: Global, quads: &[TextQuad]) -> Result<Vec<Text>, Memory>
     requires { All (Names []) quads.now }
-    ensures { (q : List Statement) → quads.now ≡ map spelled q → IfOk result (λ lines. lines.items ≡ map (line no_label) q) }
+    ensures { (q : List Statement) → quads.now ≡ map text_quad q → IfOk result (λ lines. lines.items ≡ map (line no_label) q) }
 {
     let labels = TextLabels::new(alloc);
     let mut lines = Vec::new(alloc);

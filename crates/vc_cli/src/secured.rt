@@ -1,6 +1,6 @@
 ghost use Rattle.std.specs.Prelude.{◌≡◌, ◌≤◌, ◌<◌, List, ℕ, length, reverse, IfOk};
 ghost use Rattle.json_tree.specs.declared.tree.Tree.{Tree as AnyTree};
-ghost use Rattle.json_tree.specs.Trees.{entry};
+ghost use Rattle.json_tree.specs.Trees.{new_member};
 ghost use Rattle.ld_rdf.specs.Reduced.{put_member, with_member};
 ghost use Rattle.vc_cli.specs.Requests.{secured};
 ghost use Rattle.vc_cli.specs.Drafts.{IsObject, IsPrintable, filled, filled_object, finished, is_named, place_of};
@@ -69,7 +69,7 @@ fn is_named(members: &[Member], at: usize, key: &str) -> bool
 /// The members, in the order of their names, with one of that name, in place of their own of it.
 #[tactic(auto, using(crate::proofs::Drafting::slots))]
 fn slot_in(alloc: Global, members: Vec<Member>, key: &str) -> Result<Slot, Memory>
-    ensures filled { IfOk result (λ slot. (value : AnyTree) → filled slot.members.items slot.at value ≡ put_member (entry key.now value) members.items) }
+    ensures filled { IfOk result (λ slot. (value : AnyTree) → filled slot.members.items slot.at value ≡ put_member (new_member key.now value) members.items) }
     ensures within { IfOk result (λ slot. slot.at < length slot.members.items) }
 {
     let at = place_of(members.as_slice(), key);

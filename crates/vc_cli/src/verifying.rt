@@ -3,7 +3,7 @@
 
 ghost use Rattle.std.specs.Prelude.{◌≡◌, ◌↔◌, ◌≤◌, true, List, [], All, map, IfOk, IsTrue, length, nat_le};
 ghost use Rattle.std.specs.List.{position};
-ghost use Rattle.cbor_core.specs.Writing.{rise};
+ghost use Rattle.base_types.specs.Order.{rise};
 ghost use Rattle.json_tree.specs.declared.tree.Tree.{Tree as AnyTree};
 ghost use Rattle.key_device.specs.Devices.{AcceptsSame, OwnsSame};
 ghost use Rattle.vc_cli.specs.Stages.{IsCauseOf, ReadsPlain, Verifies};

@@ -1,7 +1,7 @@
 ghost use Rattle.std.specs.Prelude.{◌≡◌, [], ◌∷◌, codes, pos, IfOk};
 ghost use Rattle.hex.specs.Hex.{encode_lower};
 ghost use Rattle.json_tree.specs.declared.tree.Tree.TheVariants as v;
-ghost use Rattle.json_tree.specs.Trees.{element, entry};
+ghost use Rattle.json_tree.specs.Trees.{element, new_member};
 ghost use Rattle.stmt_groups.specs.declared.types.Cause.TheVariants as cause;
 ghost use Rattle.vc_cli.specs.Drafts.{IsPrintable};
 ghost use Rattle.vc_cli.specs.Written.{named, cause_fields, cbor_fields, fault_at, fault_of, issued_tree, line_of, no_key_tree, number_field, part_name, plain_fault, proof_value_tree, refused_tree, rejected_tree, text_field, unknown_method_tree, value_fields, verified_tree, whole_items};
@@ -16,7 +16,7 @@ use stmt_groups::Cause;
 
 /// A member of that name.
 fn field(alloc: Global, name: &str, value: Tree) -> Result<Member, Memory>
-    ensures { IfOk result (λ m. m ≡ entry name.now value) }
+    ensures { IfOk result (λ m. m ≡ new_member name.now value) }
 {
     Ok(Member {
         key: Text::from_str(alloc, name)?,

@@ -1,6 +1,6 @@
 use Rattle.std.proofs.Common.{◌≡◌, sym, ap, ◌∙◌, subst, map, Err, Option, List, option_map}
 use Rattle.nquads.specs.Terms.{Statement}
-use Rattle.nquads.specs.Spelling.{spelled}
+use Rattle.nquads.specs.Spelling.{text_quad}
 use Rattle.ld_rdf.specs.Reduced.{statements_request, without}
 use Rattle.ld_rdf.specs.Answers.{AnswersItems}
 use Rattle.ld_rdf.specs.declared.fault.FlatFault.TheVariants.{NotBuilt}
@@ -12,17 +12,17 @@ pub returns-in-Ok-clause-ok : goal.returns-in-Ok-clause-ok
 returns-in-Ok-clause-ok c =
     flat_ok (statements_request c.args.contexts.now (without c.args.besides.now c.args.document.now))
     (request_is_lawful c.args.contexts.now _ c.requires.contexts (without_is_lawful c.args.besides.now c.args.document.now c.requires.document))
-    _ _ (ap (option_map (map spelled)) (document_made c.args.besides.now c.args.contexts.now c.args.document.now) ∙ c.in-Ok.ensures) c.from_vec.ensures.same c.from_vec.ensures.differ
+    _ _ (ap (option_map (map text_quad)) (document_made c.args.besides.now c.args.contexts.now c.args.document.now) ∙ c.in-Ok.ensures) c.from_vec.ensures.same c.from_vec.ensures.differ
 
 pub returns-in-Ok-clause-statements : goal.returns-in-Ok-clause-statements
 returns-in-Ok-clause-statements c =
     flat_means (statements_request c.args.contexts.now (without c.args.besides.now c.args.document.now))
     (request_is_lawful c.args.contexts.now _ c.requires.contexts (without_is_lawful c.args.besides.now c.args.document.now c.requires.document))
-    _ (ap (option_map (map spelled)) (document_made c.args.besides.now c.args.contexts.now c.args.document.now) ∙ c.in-Ok.ensures)
+    _ (ap (option_map (map text_quad)) (document_made c.args.besides.now c.args.contexts.now c.args.document.now) ∙ c.in-Ok.ensures)
 
 pub returns-in-Err-clause-not_built : goal.returns-in-Err-clause-not_built
 returns-in-Err-clause-not_built c is =
     let refused : c.in-Err.fault ≡ NotBuilt = cc in
     flat_not_built (statements_request c.args.contexts.now (without c.args.besides.now c.args.document.now))
     (request_is_lawful c.args.contexts.now _ c.requires.contexts (without_is_lawful c.args.besides.now c.args.document.now c.requires.document))
-    c.in-Err.fault (subst (λ (o : Option (List Statement)). AnswersItems (option_map (map spelled) o) (Err c.in-Err.fault)) (sym (document_made c.args.besides.now c.args.contexts.now c.args.document.now)) c.in-Err.ensures) refused
+    c.in-Err.fault (subst (λ (o : Option (List Statement)). AnswersItems (option_map (map text_quad) o) (Err c.in-Err.fault)) (sym (document_made c.args.besides.now c.args.contexts.now c.args.document.now)) c.in-Err.ensures) refused

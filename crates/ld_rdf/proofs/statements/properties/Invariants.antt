@@ -1,5 +1,5 @@
 use Rattle.std.proofs.Common.{◌≡◌, map, drop, option_map}
-use Rattle.nquads.specs.Spelling.{spelled}
+use Rattle.nquads.specs.Spelling.{text_quad}
 use Rattle.ld_rdf.specs.Parts.{statements_beside}
 use Rattle.ld_rdf.proofs.Turns.{left}
 use Rattle.ld_rdf.proofs.statements.properties.Given as goal
@@ -7,4 +7,4 @@ use Rattle.ld_rdf.proofs.statements.properties.Given as goal
 -- what was made, followed by what the members left give
 abbrev pub invariant-loop-member : goal.invariant-loop-member
 invariant-loop-member l =
-    option_map (map spelled) (statements_beside l.besides l.terms l.id l.members) ≡ left l.quads.items (statements_beside l.besides l.terms l.id (drop l.member-index l.members))
+    option_map (map text_quad) (statements_beside l.besides l.terms l.id l.members) ≡ left l.quads.items (statements_beside l.besides l.terms l.id (drop l.member-index l.members))

@@ -1,5 +1,5 @@
 use Rattle.std.proofs.Common.{◌≡◌, ◌∷◌, drop}
-use Rattle.cbor_core.specs.Writing.{rise}
+use Rattle.base_types.specs.Order.{rise}
 use Rattle.proof_cbor.proofs.parts.rises.Given as goal
 
 abbrev pub invariant-loop-number : goal.invariant-loop-number

@@ -1,6 +1,6 @@
 use Rattle.std.proofs.Common.{rules, ◌≡◌, List, [], Option, Some, None, false, subst, ◌∙◌}
 use Rattle.key_device.specs.declared.device.SignedEntry.{SignedEntry}
-use Rattle.key_device.specs.Devices.{GrewBy, entry}
+use Rattle.key_device.specs.Devices.{GrewBy, log_entry}
 use Rattle.key_device.specs.Tables.{key_for}
 use Rattle.vc_cli.specs.Issuing.{meaning}
 use Rattle.vc_cli.specs.Stages.{no_signature, whole_value}
@@ -52,7 +52,7 @@ returns-in-Ok-sign-clause-outcome g c = λ r w.
           (made.record_is w.case_of.statements w.case_of.options w.quads w.option_quads)
           (c.deref.ensures.value ∙ made.bytes)
           signed.accepted
-          (subst (λ (s : Option (List SignedEntry)). GrewBy (entry c.in-Some.issuer c.deref.result.now signature) s (g.D.KeyDevice.signed c.sign.new.self)) c.in-Ok.ensures.record_stays signed.recorded)
+          (subst (λ (s : Option (List SignedEntry)). GrewBy (log_entry c.in-Some.issuer c.deref.result.now signature) s (g.D.KeyDevice.signed c.sign.new.self)) c.in-Ok.ensures.record_stays signed.recorded)
           c.in-Ok.ensures.new
           (signed.ownership key ∙ c.in-Ok.ensures.owned)
           (signed.ownership c.in-Some.issuer ∙ signed.was_owned),

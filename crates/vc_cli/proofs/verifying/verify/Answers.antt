@@ -3,8 +3,8 @@ use Rattle.std.proofs.lemmas.List.{length-map}
 use Rattle.key_device.specs.declared.device.DeviceError.{DeviceError}
 use Rattle.key_device.specs.Tables.{key_for}
 use Rattle.proof_cbor.specs.Reading.{reading_derived}
-use Rattle.nquads.specs.Spelling.{spelled}
-use Rattle.stmt_groups.specs.Records.{base_bytes}
+use Rattle.nquads.specs.Spelling.{text_quad}
+use Rattle.stmt_groups.specs.Records.{sign_data}
 use Rattle.vc_cli.specs.Stages.{IsCauseOf, ReadsPlain}
 use Rattle.vc_cli.specs.Verifying.{key_name, signature}
 use Rattle.vc_cli.proofs.Facts.{flat_named_by}
@@ -68,8 +68,8 @@ returns-in-Ok-true-clause-outcome g c = λ r w.
     let given : Some issuer ≡ key_for task.keys.entries c.as_str-2.result.now = c.in-Some-find.ensures in
     let found : key_for task.keys.entries task.method ≡ Some issuer = ap (key_for task.keys.entries) (sym c.as_str-2.ensures) ∙ sym given in
     let same : bytes ≡ c.in_ok-bytes.bytes.items = c.deref.ensures.value in
-    let made : c.in_ok-bytes.bytes.items ≡ base_bytes c.as_slice-3.result.now (key_name value.key) c.as_slice-4.result.now = c.in_ok-bytes.ensures in
-    let is : bytes ≡ base_bytes option_lines (key_name value.key) lines = same ∙ made ∙ (λ i. base_bytes (c.as_slice-3.ensures i) (key_name value.key) (c.as_slice-4.ensures i)) in
+    let made : c.in_ok-bytes.bytes.items ≡ sign_data c.as_slice-3.result.now (key_name value.key) c.as_slice-4.result.now = c.in_ok-bytes.ensures in
+    let is : bytes ≡ sign_data option_lines (key_name value.key) lines = same ∙ made ∙ (λ i. sign_data (c.as_slice-3.ensures i) (key_name value.key) (c.as_slice-4.ensures i)) in
     let checked = checked_are r task w value lines are plain.0 h option_lines bytes (c.in_ok-option_lines.ensures w.option_statements w.option_quads) is in
     let answer : c.in-Ok-true.field-0 ≡ accepts issuer bytes (signature value.signature) = c.in-Ok-true.ensures.answer in
     let test : c.in-Ok-true.field-0 ≡ true = c.in-Ok-true.field-0-test in
@@ -80,7 +80,7 @@ returns-in-Ok-true-clause-outcome g c = λ r w.
       sound_of r task w value issuer,
       refl,
       refl,
-      counted ∙ ap length w.quads ∙ length-map w.statements spelled,
+      counted ∙ ap length w.quads ∙ length-map w.statements text_quad,
     )
 
 pub returns-in-Ok-false-clause-outcome : goal.returns-in-Ok-false-clause-outcome
@@ -99,8 +99,8 @@ returns-in-Ok-false-clause-outcome g c = λ r w.
     let given : Some issuer ≡ key_for task.keys.entries c.as_str-2.result.now = c.in-Some-find.ensures in
     let found : key_for task.keys.entries task.method ≡ Some issuer = ap (key_for task.keys.entries) (sym c.as_str-2.ensures) ∙ sym given in
     let same : bytes ≡ c.in_ok-bytes.bytes.items = c.deref.ensures.value in
-    let made : c.in_ok-bytes.bytes.items ≡ base_bytes c.as_slice-3.result.now (key_name value.key) c.as_slice-4.result.now = c.in_ok-bytes.ensures in
-    let is : bytes ≡ base_bytes option_lines (key_name value.key) lines = same ∙ made ∙ (λ i. base_bytes (c.as_slice-3.ensures i) (key_name value.key) (c.as_slice-4.ensures i)) in
+    let made : c.in_ok-bytes.bytes.items ≡ sign_data c.as_slice-3.result.now (key_name value.key) c.as_slice-4.result.now = c.in_ok-bytes.ensures in
+    let is : bytes ≡ sign_data option_lines (key_name value.key) lines = same ∙ made ∙ (λ i. sign_data (c.as_slice-3.ensures i) (key_name value.key) (c.as_slice-4.ensures i)) in
     let checked = checked_are r task w value lines are plain.0 h option_lines bytes (c.in_ok-option_lines.ensures w.option_statements w.option_quads) is in
     let answer : c.in-Ok-false.field-0 ≡ accepts issuer bytes (signature value.signature) = c.in-Ok-false.ensures.answer in
     let test : c.in-Ok-false.field-0 ≡ false = c.in-Ok-false.field-0-test in (

@@ -1,7 +1,7 @@
 use Rattle.std.proofs.Common.{ℕ, ◌+◌, List, length, ap, sym, subst, ◌∙◌}
 use Rattle.base64.specs.Engines.{url_safe_no_pad}
 use Rattle.base64.specs.GeneralPurpose.{encoded_size_of}
-use Rattle.proof_cbor.specs.Values.{text_of, signed, IsDraft}
+use Rattle.proof_cbor.specs.Values.{multibase_text, with_signature, IsDraft}
 use Rattle.proof_cbor.proofs.Drafts.{finished, put_bytes, same_size}
 use Rattle.proof_cbor.proofs.Making.{base_is_text}
 use Rattle.proof_cbor.proofs.draft.BaseDraft.finish.Goals as goal
@@ -15,10 +15,10 @@ pub returns-clause-text : goal.returns-clause-text
 returns-clause-text c = λ value draft.
     finished value c.self.inside.bytes.items c.with_signature-bytes.result.items c.args.signature.now c.text_over.result
     (subst (λ (z : List ℕ). IsDraft value z) (sym c.self.view_is) draft) c.with_signature-bytes.ensures.long c.with_signature-bytes.ensures.bytes
-    (c.text_over.ensures.text ∙ ap text_of c.deref.ensures.value)
+    (c.text_over.ensures.text ∙ ap multibase_text c.deref.ensures.value)
 
 pub returns-clause-spelled : goal.returns-clause-spelled
 returns-clause-spelled c = λ value draft can few.
     let held : IsDraft value c.self.inside.bytes.items = subst (λ (z : List ℕ). IsDraft value z) (sym c.self.view_is) draft in
     let bytes_are = put_bytes value c.self.inside.bytes.items c.with_signature-bytes.result.items c.args.signature.now held c.with_signature-bytes.ensures.long c.with_signature-bytes.ensures.bytes in
-    base_is_text (signed value c.args.signature.now) c.deref.result.now c.text_over.result can few c.text_over.ensures.proper (c.deref.ensures.value ∙ bytes_are) c.text_over.ensures.text
+    base_is_text (with_signature value c.args.signature.now) c.deref.result.now c.text_over.result can few c.text_over.ensures.proper (c.deref.ensures.value ∙ bytes_are) c.text_over.ensures.text
