@@ -1,6 +1,6 @@
 -- The line of a spelled statement is the statement's line, and a sort of all lines, with equal
 -- neighbours dropped, gives the canonical lines.
-use Rattle.std.proofs.Common.{◌≡◌, ℕ, List, [], ◌∷◌, ◌++◌, map, refl, sym, ap, ◌∙◌, Option, Some, None, append_assoc, append-nil, option_map, ◌+◌, ◌<◌, length, get_or, take}
+use Rattle.std.proofs.Common.{◌≡◌, ℕ, List, [], ◌∷◌, ◌++◌, map, refl, sym, ap, ◌∙◌, Option, Some, None, append_assoc, append-nil, option_map, ◌+◌, ◌<◌, length, get_or, take, codes}
 use Rattle.std.specs.List.{concat}
 use Rattle.std.specs.List.Retain.{IsFiltered, DiffersFromLast}
 use Rattle.std.specs.List.Sorted.{IsPermutation, IsSorted}
@@ -14,36 +14,36 @@ use Rattle.base_types.specs.Sets.{SameElements}
 use Rattle.base_types.proofs.Lists.{SameElements-map}
 use Rattle.base_types.proofs.Rising.{rising-dedup, rising-free}
 use Rattle.nquads.specs.Terms.{Term, iri, literal, blank, Statement}
-use Rattle.nquads.specs.Spelling.{spelling, text_quad}
+use Rattle.nquads.specs.Spelling.{spelling, blank_text, text_quad}
 use Rattle.nquads.specs.Lines.{term_text, graph_text, line, canonical_lines}
-use Rattle.nquads.specs.Texts.{label_in, part_text, graph_part_text, text_line}
-use Rattle.nquads.specs.declared.labels.TextLabel.{TextLabel}
+use Rattle.nquads.specs.Texts.{part_text, graph_part_text, text_line}
 use Rattle.nquads.specs.declared.quads.TextQuad.{TextQuad}
 
-module _ (labels : List TextLabel) where
-  part_text-spelling : (t : Term) → part_text labels (spelling t) ≡ term_text (label_in labels) t
+module _ (label : List ℕ → List ℕ) where
+  part_text-spelling : (t : Term) → part_text label (spelling t) ≡ term_text (λ b. label (blank_text b)) t
   part_text-spelling (iri text) = refl
   part_text-spelling (literal text datatype language) = refl
   part_text-spelling (blank b) = refl
 
-  graph_part_text-spelling : (g : Option Term) → graph_part_text labels (option_map spelling g) ≡ graph_text (label_in labels) g
+  graph_part_text-spelling : (g : Option Term) → graph_part_text label (option_map spelling g) ≡ graph_text (λ b. label (blank_text b)) g
   graph_part_text-spelling None = refl
-  graph_part_text-spelling (Some g) = ap (λ t. t ++ 32 ∷ []) (part_text-spelling g)
+  graph_part_text-spelling (Some g) = ap (λ t. t ++ codes " ") (part_text-spelling g)
 
-  pub text_line-spelled : (s : Statement) → text_line labels (text_quad s) ≡ line (label_in labels) s
+  -- the line of a statement's texts is the statement's line
+  pub text_line-spelled : (s : Statement) → text_line label (text_quad s) ≡ line (λ b. label (blank_text b)) s
   text_line-spelled s = rw (part_text-spelling s.subject, part_text-spelling s.object, graph_part_text-spelling s.graph) refl
 
-  text_lines-spelled : (q : List Statement) → map (text_line labels) (map text_quad q) ≡ map (line (label_in labels)) q
+  text_lines-spelled : (q : List Statement) → map (text_line label) (map text_quad q) ≡ map (line (λ b. label (blank_text b))) q
   text_lines-spelled [] = refl
   text_lines-spelled (s ∷ ss) = let first = text_line-spelled s in let rest = text_lines-spelled ss in λ i. first i ∷ rest i
 
-  pub rising-text_lines : (quads : List TextQuad) (q : List Statement) → SameElements quads (map text_quad q) → sorted_set (map (text_line labels) quads) ≡ canonical_lines (label_in labels) q
+  rising-text_lines : (quads : List TextQuad) (q : List Statement) → SameElements quads (map text_quad q) → sorted_set (map (text_line label) quads) ≡ canonical_lines (λ b. label (blank_text b)) q
   rising-text_lines quads q same =
-      rising-free (map (text_line labels) quads) (map (text_line labels) (map text_quad q)) (SameElements-map (text_line labels) quads (map text_quad q) same)
+      rising-free (map (text_line label) quads) (map (text_line label) (map text_quad q)) (SameElements-map (text_line label) quads (map text_quad q) same)
       ∙ ap sorted_set (text_lines-spelled q)
 
-  -- what `text_of` joins
-  pub kept-canonical : (quads : List TextQuad) (lines up kept : List (List ℕ)) (q : List Statement) → lines ≡ map (text_line labels) quads → IsPermutation lines up → IsSorted (slice_cmp nat_cmp) up → IsFiltered (DiffersFromLast bytes_eq) [] up kept → SameElements quads (map text_quad q) → kept ≡ canonical_lines (label_in labels) q
+  -- what a sort of all lines leaves, with equal neighbours dropped
+  pub kept-canonical : (quads : List TextQuad) (lines up kept : List (List ℕ)) (q : List Statement) → lines ≡ map (text_line label) quads → IsPermutation lines up → IsSorted (slice_cmp nat_cmp) up → IsFiltered (DiffersFromLast bytes_eq) [] up kept → SameElements quads (map text_quad q) → kept ≡ canonical_lines (λ b. label (blank_text b)) q
   kept-canonical quads lines up kept q made moved sorted filtered same =
       dedup_is bytes_eq up kept filtered ∙ rising-dedup lines up moved sorted ∙ ap sorted_set made ∙ rising-text_lines quads q same
 
@@ -55,5 +55,5 @@ pub concat-more : (lines : List (List ℕ)) (i : ℕ) (l : List ℕ) → i < len
 concat-more lines i l in' is = ap concat (take_more lines i l in' ∙ ap (λ m. take i lines ++ m ∷ []) (sym is)) ∙ concat-push (take i lines) l
 
 -- a line, put together piece by piece
-pub assembled : (labels : List TextLabel) (quad : TextQuad) (n p a b c d e f g h : List ℕ) → n ≡ [] → a ≡ n ++ part_text labels quad.subject → b ≡ a ++ 32 ∷ [] → p ≡ quad.predicate → c ≡ b ++ p → d ≡ c ++ 32 ∷ [] → e ≡ d ++ part_text labels quad.object → f ≡ e ++ 32 ∷ [] → g ≡ f ++ graph_part_text labels quad.graph → h ≡ g ++ 46 ∷ 10 ∷ [] → h ≡ text_line labels quad
-assembled labels quad n p a b c d e f g h en ea eb ep ec ed ee ef eg eh = rw (eh, eg, ef, ee, ed, ec, ep, eb, ea, en) (simp append_assoc)
+pub assembled : (label : List ℕ → List ℕ) (quad : TextQuad) (n p a b c d e f g h : List ℕ) → n ≡ [] → a ≡ n ++ part_text label quad.subject → b ≡ a ++ codes " " → p ≡ quad.predicate → c ≡ b ++ p → d ≡ c ++ codes " " → e ≡ d ++ part_text label quad.object → f ≡ e ++ codes " " → g ≡ f ++ graph_part_text label quad.graph → h ≡ g ++ codes ".\n" → h ≡ text_line label quad
+assembled label quad n p a b c d e f g h en ea eb ep ec ed ee ef eg eh = rw (eh, eg, ef, ee, ed, ec, ep, eb, ea, en) (simp append_assoc)

@@ -5,7 +5,7 @@ use Rattle.std.specs.List.{flat_map, concat}
 use Rattle.nquads.specs.Terms.{Blank, Term, iri, literal, blank, Statement, HasIriCharacters, IsLabel, IsTerm, IsResource, IsStatement, xsd_string}
 use Rattle.nquads.specs.Renaming.{blanks_of_term, blanks_of_graph, blanks_of, rename_term, rename}
 use Rattle.nquads.specs.Spelling.{escape, iri_text, literal_end}
-use Rattle.nquads.specs.Lines.{term_text, graph_text, line, with_labels, HasLabels, IsLine}
+use Rattle.nquads.specs.Lines.{term_text, graph_text, line_text, line, with_labels, HasLabels, IsLine}
 use Rattle.nquads.proofs.ReadingTexts.{apart, Absent, Absent-append, Absent-contains, Absent-from, cut_once}
 use Rattle.nquads.proofs.ReadingEscapes.{quoted_absent}
 use Rattle.nquads.proofs.ReadingTerms.{named, iri_then, term_then, IsTerm-from_resource, same_statement, iri_absent, label_absent, language_absent}
@@ -36,7 +36,7 @@ after_subject f s = iri_text s.predicate ++ 32 ∷ after_predicate f s
 
 in_parts : (f : Blank → List ℕ) (s : Statement) → line f s ≡ term_text f s.subject ++ 32 ∷ after_subject f s
 unfolding after_object after_predicate after_subject
-in_parts f s = refl
+in_parts f s = simp append_assoc
 
 pub line_one_reading : (f g : Blank → List ℕ) (s t : Statement) → IsStatement s → IsStatement t → HasLabels f s → HasLabels g t → line f s ≡ line g t → with_labels f s ≡ with_labels g t
 unfolding after_object after_predicate after_subject
@@ -116,7 +116,7 @@ literal_end_absent s x (Some k) i = ((omega arith), language_absent 10 k (omega 
 term_text_absent : (f : Blank → List ℕ) (t : Term) → IsTerm t → ((b : Blank) → Contains (blanks_of_term t) b → IsLabel (f b)) → Absent 10 (term_text f t)
 term_text_absent f (iri x) i p = iri_text_absent x i
 term_text_absent f (literal s x k) i p =
-    ((omega arith), Absent-append 10 (flat_map escape s) (34 ∷ literal_end x k) (quoted_absent s) ((omega arith), literal_end_absent s x k i))
+    ((omega arith), Absent-append 10 (flat_map escape s ++ 34 ∷ []) (literal_end x k) (Absent-append 10 (flat_map escape s) (34 ∷ []) (quoted_absent s) ((omega arith), tt)) (literal_end_absent s x k i))
 term_text_absent f (blank b) i p = ((omega arith), ((omega arith), label_absent 10 (f b) refl (p b (zero, zero-lt-suc zero, refl))))
 
 graph_text_absent : (f : Blank → List ℕ) (g : Option Term) → IfSome g IsResource → ((b : Blank) → Contains (blanks_of_graph g) b → IsLabel (f b)) → Absent 10 (graph_text f g)
@@ -126,7 +126,7 @@ graph_text_absent f (Some t) i p = Absent-append 10 (term_text f t) (32 ∷ []) 
 front_of : List ℕ → List ℕ → List ℕ → List ℕ → List ℕ
 front_of s p o g = s ++ (32 ∷ (p ++ (32 ∷ (o ++ (32 ∷ (g ++ (46 ∷ [])))))))
 
-front_is : (s p o g : List ℕ) → s ++ (32 ∷ (p ++ (32 ∷ (o ++ (32 ∷ (g ++ (46 ∷ 10 ∷ []))))))) ≡ front_of s p o g ++ 10 ∷ []
+front_is : (s p o g : List ℕ) → line_text s p o g ≡ front_of s p o g ++ 10 ∷ []
 unfolding front_of
 front_is s p o g = simp append_assoc
 

@@ -4,7 +4,7 @@ use Rattle.std.proofs.lemmas.List.Elements.{All-contains}
 use Rattle.std.specs.List.{flat_map}
 use Rattle.base_types.specs.Sets.{AllDiffer, SameElements}
 use Rattle.nquads.specs.Terms.{Blank, Term, iri, literal, blank, Statement, IsStatement, IsTerm, IsResource, IsDataset}
-use Rattle.nquads.specs.Renaming.{same_blank, blanks_of, rename_term, rename, Pair, IsRenaming, applied, Same, IsOneToOne}
+use Rattle.nquads.specs.Renaming.{same_blank, blanks_of, rename_term, rename, Pair, IsRenaming, image, Same, IsOneToOne}
 use Rattle.base_types.proofs.Lists.{Contains-nil, Contains-here, Contains-there, Contains-cons_cases, Contains-map, Contains-from_map, SameElements-trans}
 use Rattle.nquads.proofs.ReadingElements.{All-from_contains, AllDiffer-head, AllDiffer-tail, AllDiffer-map}
 use Rattle.nquads.proofs.ReadingLines.{statement_from_renamed}
@@ -26,11 +26,11 @@ unfolding along
 along_to h [] = refl
 along_to h (b ∷ bs) = ap (λ (z : List Blank). h b ∷ z) (along_to h bs)
 
-along_applied : (h : Blank → Blank) (bs : List Blank) (b : Blank) → Contains bs b → applied (along h bs) b ≡ h b
+along_applied : (h : Blank → Blank) (bs : List Blank) (b : Blank) → Contains bs b → image (along h bs) b ≡ h b
 unfolding along
 along_applied h [] b m = absurd (Contains-nil b m)
 along_applied h (c ∷ cs) b m =
-    chosen (same_blank c b) (h c) (applied (along h cs) b) (h b)
+    chosen (same_blank c b) (h c) (image (along h cs) b) (h b)
     (λ e. ap h (same_blank-true c b e))
     (λ e. along_applied h cs b (elim (Contains-cons_cases c cs b m) [ inl k ↦ absurd (same_blank-false c b e k) | inr n ↦ n ]))
 
@@ -49,7 +49,7 @@ pub Same-from_map : (h : Blank → Blank) (q r : List Statement) → OneToOneOn 
 Same-from_map h q r o e =
     let bs = distinct (flat_map blanks_of q) in
     let named : (b : Blank) → Stands q b → Contains bs b = λ b s. distinct_keeps (flat_map blanks_of q) b (to_blanks_in q s.statement b s.within s.blank_node) in
-    let agrees : (b : Blank) → Stands q b → applied (along h bs) b ≡ h b = λ b s. along_applied h bs b (named b s) in
+    let agrees : (b : Blank) → Stands q b → image (along h bs) b ≡ h b = λ b s. along_applied h bs b (named b s) in
     record {
       pairs = along h bs;
       renaming = record {
@@ -60,16 +60,16 @@ Same-from_map h q r o e =
       names = All-from_contains (λ (s : Statement). All (Contains (map (λ (p : Pair). p.from) (along h bs))) (blanks_of s)) q
           (λ s m. All-from_contains (Contains (map (λ (p : Pair). p.from) (along h bs))) (blanks_of s)
           (λ b n. subst (λ (z : List Blank). Contains z b) (sym (along_from h bs)) (named b (record { statement = s; within = m; blank_node = n }))));
-      renamed = SameElements-trans (map (rename (applied (along h bs))) q) (map (rename h) q) r
-          (λ t. (same_maps (applied (along h bs)) h q agrees t, same_maps h (applied (along h bs)) q (λ b s. sym (agrees b s)) t)) e;
+      elements = SameElements-trans (map (rename (image (along h bs))) q) (map (rename h) q) r
+          (λ t. (same_maps (image (along h bs)) h q agrees t, same_maps h (image (along h bs)) q (λ b s. sym (agrees b s)) t)) e;
     }
 
 -- ---- what a renaming does, and how it is undone
 
-applied_at : (r : List Pair) (p : Pair) → AllDiffer (map (λ (x : Pair). x.from) r) → Contains r p → applied r p.from ≡ p.to
+applied_at : (r : List Pair) (p : Pair) → AllDiffer (map (λ (x : Pair). x.from) r) → Contains r p → image r p.from ≡ p.to
 applied_at [] p a m = absurd (Contains-nil p m)
 applied_at (x ∷ xs) p a m =
-    chosen (same_blank x.from p.from) x.to (applied xs p.from) p.to
+    chosen (same_blank x.from p.from) x.to (image xs p.from) p.to
     (λ e. elim (Contains-cons_cases x xs p m) [
       | inl k ↦ ap (λ (z : Pair). z.to) k
       | inr n ↦ absurd (AllDiffer-head x.from (map (λ (z : Pair). z.from) xs) a (subst (λ (z : Blank). Contains (map (λ (y : Pair). y.from) xs) z) (sym (same_blank-true x.from p.from e)) (Contains-map (λ (z : Pair). z.from) xs p n)))
@@ -101,25 +101,25 @@ back-contains (x ∷ xs) p m =
     ]
 
 -- the renaming backwards undoes it
-pub applied_back : (r : List Pair) (b : Blank) → IsRenaming r → Contains (map (λ (p : Pair). p.from) r) b → applied (back r) (applied r b) ≡ b
+pub applied_back : (r : List Pair) (b : Blank) → IsRenaming r → Contains (map (λ (p : Pair). p.from) r) b → image (back r) (image r b) ≡ b
 unfolding swapped
 applied_back r b i m =
     let found = Contains-from_map (λ (p : Pair). p.from) r b m in
     let p = found.0 in
-    let to : applied r b ≡ p.to = ap (applied r) (sym found.2) ∙ applied_at r p i.sources found.1 in
-    let undone : applied (back r) p.to ≡ p.from = applied_at (back r) (swapped p) (subst (λ (z : List Blank). AllDiffer z) (sym (back_from r)) i.targets) (back-contains r p found.1) in
-    ap (applied (back r)) to ∙ undone ∙ found.2
+    let to : image r b ≡ p.to = ap (image r) (sym found.2) ∙ applied_at r p i.sources found.1 in
+    let undone : image (back r) p.to ≡ p.from = applied_at (back r) (swapped p) (subst (λ (z : List Blank). AllDiffer z) (sym (back_from r)) i.targets) (back-contains r p found.1) in
+    ap (image (back r)) to ∙ undone ∙ found.2
 
 pub named_at : (q r : List Statement) (e : Same q r) (b : Blank) → Stands q b → Contains (map (λ (p : Pair). p.from) e.pairs) b
 named_at q r e b s =
     All-contains (Contains (map (λ (p : Pair). p.from) e.pairs)) (blanks_of s.statement) b
     (All-contains (λ (t : Statement). All (Contains (map (λ (p : Pair). p.from) e.pairs)) (blanks_of t)) q s.statement e.names s.within) s.blank_node
 
-undone_at : (q r : List Statement) (e : Same q r) (b : Blank) → Stands q b → applied (back e.pairs) (applied e.pairs b) ≡ b
+undone_at : (q r : List Statement) (e : Same q r) (b : Blank) → Stands q b → image (back e.pairs) (image e.pairs b) ≡ b
 undone_at q r e b s = applied_back e.pairs b e.renaming (named_at q r e b s)
 
-pub Same-one_to_one : (q r : List Statement) (e : Same q r) → OneToOneOn (applied e.pairs) q
-Same-one_to_one q r e a b s t k = sym (undone_at q r e a s) ∙ ap (applied (back e.pairs)) k ∙ undone_at q r e b t
+pub Same-one_to_one : (q r : List Statement) (e : Same q r) → OneToOneOn (image e.pairs) q
+Same-one_to_one q r e a b s t k = sym (undone_at q r e a s) ∙ ap (image (back e.pairs)) k ∙ undone_at q r e b t
 
 -- each blank node of the renamed dataset comes from one
 came_from : (h : Blank → Blank) (q r : List Statement) → SameElements (map (rename h) q) r → (c : Blank) → Stands r c → (b : Blank) × Stands q b × (h b ≡ c)
@@ -147,61 +147,61 @@ Same-refl q = Same-from_elements q q (λ t. ((λ m. m), (λ m. m)))
 
 pub Same-sym : (q r : List Statement) → Same q r → Same r q
 Same-sym q r e =
-    Same-from_map (applied (back e.pairs)) r q one (λ t. (to t, fro t))
+    Same-from_map (image (back e.pairs)) r q one (λ t. (to t, fro t))
   where
-    one : OneToOneOn (applied (back e.pairs)) r
+    one : OneToOneOn (image (back e.pairs)) r
     one c d s t k =
-        let b = came_from (applied e.pairs) q r e.renamed c s in
-        let a = came_from (applied e.pairs) q r e.renamed d t in
-        let left : applied (back e.pairs) c ≡ b.0 = ap (applied (back e.pairs)) (sym b.2) ∙ undone_at q r e b.0 b.1 in
-        let right : applied (back e.pairs) d ≡ a.0 = ap (applied (back e.pairs)) (sym a.2) ∙ undone_at q r e a.0 a.1 in
-        sym b.2 ∙ ap (applied e.pairs) (sym left ∙ k ∙ right) ∙ a.2
+        let b = came_from (image e.pairs) q r e.elements c s in
+        let a = came_from (image e.pairs) q r e.elements d t in
+        let left : image (back e.pairs) c ≡ b.0 = ap (image (back e.pairs)) (sym b.2) ∙ undone_at q r e b.0 b.1 in
+        let right : image (back e.pairs) d ≡ a.0 = ap (image (back e.pairs)) (sym a.2) ∙ undone_at q r e a.0 a.1 in
+        sym b.2 ∙ ap (image e.pairs) (sym left ∙ k ∙ right) ∙ a.2
 
-    undone : (s : Statement) → Contains q s → rename (applied (back e.pairs)) (rename (applied e.pairs) s) ≡ s
-    undone s m = rename-rename (applied (back e.pairs)) (applied e.pairs) (λ b. b) s (λ b n. undone_at q r e b (record { statement = s; within = m; blank_node = n })) ∙ rename-itself s
+    undone : (s : Statement) → Contains q s → rename (image (back e.pairs)) (rename (image e.pairs) s) ≡ s
+    undone s m = rename-rename (image (back e.pairs)) (image e.pairs) (λ b. b) s (λ b n. undone_at q r e b (record { statement = s; within = m; blank_node = n })) ∙ rename-itself s
 
-    to : (t : Statement) → Contains (map (rename (applied (back e.pairs))) r) t → Contains q t
+    to : (t : Statement) → Contains (map (rename (image (back e.pairs))) r) t → Contains q t
     to t m =
-        let found = Contains-from_map (rename (applied (back e.pairs))) r t m in
-        let origin = Contains-from_map (rename (applied e.pairs)) q found.0 ((e.renamed found.0).1 found.1) in
-        let same : origin.0 ≡ t = sym (undone origin.0 origin.1) ∙ ap (rename (applied (back e.pairs))) origin.2 ∙ found.2 in
+        let found = Contains-from_map (rename (image (back e.pairs))) r t m in
+        let origin = Contains-from_map (rename (image e.pairs)) q found.0 ((e.elements found.0).1 found.1) in
+        let same : origin.0 ≡ t = sym (undone origin.0 origin.1) ∙ ap (rename (image (back e.pairs))) origin.2 ∙ found.2 in
         subst (λ (z : Statement). Contains q z) same origin.1
 
-    fro : (t : Statement) → Contains q t → Contains (map (rename (applied (back e.pairs))) r) t
+    fro : (t : Statement) → Contains q t → Contains (map (rename (image (back e.pairs))) r) t
     fro t m =
-        subst (λ (z : Statement). Contains (map (rename (applied (back e.pairs))) r) z) (undone t m)
-        (Contains-map (rename (applied (back e.pairs))) r (rename (applied e.pairs) t) ((e.renamed (rename (applied e.pairs) t)).0 (Contains-map (rename (applied e.pairs)) q t m)))
+        subst (λ (z : Statement). Contains (map (rename (image (back e.pairs))) r) z) (undone t m)
+        (Contains-map (rename (image (back e.pairs))) r (rename (image e.pairs) t) ((e.elements (rename (image e.pairs) t)).0 (Contains-map (rename (image e.pairs)) q t m)))
 
 pub Same-trans : (q r u : List Statement) → Same q r → Same r u → Same q u
 Same-trans q r u e k =
-    Same-from_map (λ b. applied k.pairs (applied e.pairs b)) q u one (λ t. (to t, fro t))
+    Same-from_map (λ b. image k.pairs (image e.pairs b)) q u one (λ t. (to t, fro t))
   where
-    moved : (b : Blank) → Stands q b → Stands r (applied e.pairs b)
+    moved : (b : Blank) → Stands q b → Stands r (image e.pairs b)
     moved b s = record {
-      statement = rename (applied e.pairs) s.statement;
-      within = (e.renamed (rename (applied e.pairs) s.statement)).0 (Contains-map (rename (applied e.pairs)) q s.statement s.within);
-      blank_node = subst (λ (z : List Blank). Contains z (applied e.pairs b)) (sym (blanks_of-rename (applied e.pairs) s.statement)) (Contains-map (applied e.pairs) (blanks_of s.statement) b s.blank_node);
+      statement = rename (image e.pairs) s.statement;
+      within = (e.elements (rename (image e.pairs) s.statement)).0 (Contains-map (rename (image e.pairs)) q s.statement s.within);
+      blank_node = subst (λ (z : List Blank). Contains z (image e.pairs b)) (sym (blanks_of-rename (image e.pairs) s.statement)) (Contains-map (image e.pairs) (blanks_of s.statement) b s.blank_node);
     }
 
-    one : OneToOneOn (λ b. applied k.pairs (applied e.pairs b)) q
-    one a b s t m = Same-one_to_one q r e a b s t (Same-one_to_one r u k (applied e.pairs a) (applied e.pairs b) (moved a s) (moved b t) m)
+    one : OneToOneOn (λ b. image k.pairs (image e.pairs b)) q
+    one a b s t m = Same-one_to_one q r e a b s t (Same-one_to_one r u k (image e.pairs a) (image e.pairs b) (moved a s) (moved b t) m)
 
-    twice : (s : Statement) → rename (applied k.pairs) (rename (applied e.pairs) s) ≡ rename (λ b. applied k.pairs (applied e.pairs b)) s
-    twice s = rename-rename (applied k.pairs) (applied e.pairs) (λ b. applied k.pairs (applied e.pairs b)) s (λ b n. refl)
+    twice : (s : Statement) → rename (image k.pairs) (rename (image e.pairs) s) ≡ rename (λ b. image k.pairs (image e.pairs b)) s
+    twice s = rename-rename (image k.pairs) (image e.pairs) (λ b. image k.pairs (image e.pairs b)) s (λ b n. refl)
 
-    to : (t : Statement) → Contains (map (rename (λ b. applied k.pairs (applied e.pairs b))) q) t → Contains u t
+    to : (t : Statement) → Contains (map (rename (λ b. image k.pairs (image e.pairs b))) q) t → Contains u t
     to t m =
-        let found = Contains-from_map (rename (λ b. applied k.pairs (applied e.pairs b))) q t m in
-        let mid : Contains r (rename (applied e.pairs) found.0) = (e.renamed (rename (applied e.pairs) found.0)).0 (Contains-map (rename (applied e.pairs)) q found.0 found.1) in
-        let last : Contains u (rename (applied k.pairs) (rename (applied e.pairs) found.0)) = (k.renamed (rename (applied k.pairs) (rename (applied e.pairs) found.0))).0 (Contains-map (rename (applied k.pairs)) r (rename (applied e.pairs) found.0) mid) in
+        let found = Contains-from_map (rename (λ b. image k.pairs (image e.pairs b))) q t m in
+        let mid : Contains r (rename (image e.pairs) found.0) = (e.elements (rename (image e.pairs) found.0)).0 (Contains-map (rename (image e.pairs)) q found.0 found.1) in
+        let last : Contains u (rename (image k.pairs) (rename (image e.pairs) found.0)) = (k.elements (rename (image k.pairs) (rename (image e.pairs) found.0))).0 (Contains-map (rename (image k.pairs)) r (rename (image e.pairs) found.0) mid) in
         subst (λ (z : Statement). Contains u z) (twice found.0 ∙ found.2) last
 
-    fro : (t : Statement) → Contains u t → Contains (map (rename (λ b. applied k.pairs (applied e.pairs b))) q) t
+    fro : (t : Statement) → Contains u t → Contains (map (rename (λ b. image k.pairs (image e.pairs b))) q) t
     fro t m =
-        let second = Contains-from_map (rename (applied k.pairs)) r t ((k.renamed t).1 m) in
-        let first = Contains-from_map (rename (applied e.pairs)) q second.0 ((e.renamed second.0).1 second.1) in
-        subst (λ (z : Statement). Contains (map (rename (λ b. applied k.pairs (applied e.pairs b))) q) z) (sym (twice first.0) ∙ ap (rename (applied k.pairs)) first.2 ∙ second.2)
-        (Contains-map (rename (λ b. applied k.pairs (applied e.pairs b))) q first.0 first.1)
+        let second = Contains-from_map (rename (image k.pairs)) r t ((k.elements t).1 m) in
+        let first = Contains-from_map (rename (image e.pairs)) q second.0 ((e.elements second.0).1 second.1) in
+        subst (λ (z : Statement). Contains (map (rename (λ b. image k.pairs (image e.pairs b))) q) z) (sym (twice first.0) ∙ ap (rename (image k.pairs)) first.2 ∙ second.2)
+        (Contains-map (rename (λ b. image k.pairs (image e.pairs b))) q first.0 first.1)
 
 -- ---- the laws, in the words of specs/
 
@@ -209,7 +209,7 @@ pub Same-from_one_to_one : (f : Blank → Blank) (q r : List Statement) → IsOn
 Same-from_one_to_one f q r o e =
     Same-from_map f q r (λ a b s t k. o a b (to_blanks_in q s.statement a s.within s.blank_node) (to_blanks_in q t.statement b t.within t.blank_node) k) e
 
-pub one_to_one-from_Same : (q r : List Statement) (e : Same q r) → IsOneToOne (applied e.pairs) q
+pub one_to_one-from_Same : (q r : List Statement) (e : Same q r) → IsOneToOne (image e.pairs) q
 one_to_one-from_Same q r e a b m n k = Same-one_to_one q r e a b (from_blanks_in q a m) (from_blanks_in q b n) k
 
 -- ---- what a renaming keeps
@@ -244,5 +244,5 @@ IsDataset-rename h q o d =
 pub IsStatement-from_Same : (q r : List Statement) → Same q r → All IsStatement q → All IsStatement r
 IsStatement-from_Same q r e i =
     All-from_contains IsStatement r
-    (λ t m. let found = Contains-from_map (rename (applied e.pairs)) q t ((e.renamed t).1 m) in
-    subst IsStatement found.2 (IsStatement-rename (applied e.pairs) found.0 (All-contains IsStatement q found.0 i found.1)))
+    (λ t m. let found = Contains-from_map (rename (image e.pairs)) q t ((e.elements t).1 m) in
+    subst IsStatement found.2 (IsStatement-rename (image e.pairs) found.0 (All-contains IsStatement q found.0 i found.1)))

@@ -1,14 +1,14 @@
 -- Equal canonical texts and datasets that are the same up to the names of blank nodes.
-use Rattle.std.proofs.Common.{◌≡◌, ℕ, List, [], ◌∷◌, ◌++◌, map, All, Contains, refl, sym, ap, ◌∙◌, subst, Option, Some, None, option_map}
+use Rattle.std.proofs.Common.{◌≡◌, ℕ, List, [], ◌∷◌, ◌++◌, map, All, Contains, refl, sym, ap, ◌∙◌, subst, Option, Some, None, option_map, codes}
 use Rattle.base_types.specs.Sets.{SameElements}
 use Rattle.nquads.specs.Terms.{Blank, Term, iri, literal, blank, Statement, IsStatement}
-use Rattle.nquads.specs.Renaming.{rename_term, rename, applied, Same}
+use Rattle.nquads.specs.Renaming.{rename_term, rename, image, Same}
 use Rattle.nquads.specs.Lines.{with_labels, HasLabels, canonical_text, LabelsDiffer}
 use Rattle.base_types.proofs.Lists.{Contains-map, Contains-from_map}
 use Rattle.nquads.proofs.ReadingTerms.{named}
 use Rattle.nquads.proofs.ReadingDatasets.{text_determines_statements}
 use Rattle.std.specs.List.{concat}
-use Rattle.nquads.specs.Lines.{term_text, graph_text, line}
+use Rattle.nquads.specs.Lines.{term_text, graph_text, line_text, line}
 use Rattle.nquads.specs.Spelling.{iri_text}
 use Rattle.nquads.proofs.ReadingBlanks.{to_blanks_in}
 use Rattle.base_types.proofs.Rising.{rising-free}
@@ -38,17 +38,13 @@ term_text-rename f h (blank b) = refl
 
 graph_text-rename : (f : Blank → List ℕ) (h : Blank → Blank) (g : Option Term) → graph_text f (option_map (rename_term h) g) ≡ graph_text (λ b. f (h b)) g
 graph_text-rename f h None = refl
-graph_text-rename f h (Some t) = ap (λ (z : List ℕ). z ++ 32 ∷ []) (term_text-rename f h t)
-
-whole_line : List ℕ → List ℕ → List ℕ → List ℕ → List ℕ
-whole_line s p o g = s ++ (32 ∷ (p ++ (32 ∷ (o ++ (32 ∷ (g ++ (46 ∷ 10 ∷ [])))))))
+graph_text-rename f h (Some t) = ap (λ (z : List ℕ). z ++ codes " ") (term_text-rename f h t)
 
 pub line-rename : (f : Blank → List ℕ) (h : Blank → Blank) (s : Statement) → line f (rename h s) ≡ line (λ b. f (h b)) s
-unfolding whole_line
 line-rename f h s =
-    ap (λ (z : List ℕ). whole_line z (iri_text s.predicate) (term_text f (rename_term h s.object)) (graph_text f (option_map (rename_term h) s.graph))) (term_text-rename f h s.subject)
-    ∙ ap (λ (z : List ℕ). whole_line (term_text (λ b. f (h b)) s.subject) (iri_text s.predicate) z (graph_text f (option_map (rename_term h) s.graph))) (term_text-rename f h s.object)
-    ∙ ap (λ (z : List ℕ). whole_line (term_text (λ b. f (h b)) s.subject) (iri_text s.predicate) (term_text (λ b. f (h b)) s.object) z) (graph_text-rename f h s.graph)
+    ap (λ (z : List ℕ). line_text z (iri_text s.predicate) (term_text f (rename_term h s.object)) (graph_text f (option_map (rename_term h) s.graph))) (term_text-rename f h s.subject)
+    ∙ ap (λ (z : List ℕ). line_text (term_text (λ b. f (h b)) s.subject) (iri_text s.predicate) z (graph_text f (option_map (rename_term h) s.graph))) (term_text-rename f h s.object)
+    ∙ ap (λ (z : List ℕ). line_text (term_text (λ b. f (h b)) s.subject) (iri_text s.predicate) (term_text (λ b. f (h b)) s.object) z) (graph_text-rename f h s.graph)
 
 carried : (f : Blank → List ℕ) (h : Blank → Blank) (q r : List Statement) → SameElements (map (rename h) q) r → SameElements (map (line (λ b. f (h b))) q) (map (line f) r)
 carried f h q r e l = (to, fro)
@@ -68,8 +64,8 @@ carried f h q r e l = (to, fro)
 pub text_carried : (f : Blank → List ℕ) (h : Blank → Blank) (q r : List Statement) → SameElements (map (rename h) q) r → canonical_text (λ b. f (h b)) q ≡ canonical_text f r
 text_carried f h q r e = ap concat (rising-free (map (line (λ b. f (h b))) q) (map (line f) r) (carried f h q r e))
 
-pub text_from_Same : (f : Blank → List ℕ) (q r : List Statement) (e : Same q r) → canonical_text f r ≡ canonical_text (λ b. f (applied e.pairs b)) q
-text_from_Same f q r e = sym (text_carried f (applied e.pairs) q r e.renamed)
+pub text_from_Same : (f : Blank → List ℕ) (q r : List Statement) (e : Same q r) → canonical_text f r ≡ canonical_text (λ b. f (image e.pairs b)) q
+text_from_Same f q r e = sym (text_carried f (image e.pairs) q r e.elements)
 
 -- a canonical text depends on the labelled statements alone
 pub text_from_statements : (f g : Blank → List ℕ) (q r : List Statement) → SameElements (map (with_labels f) q) (map (with_labels g) r) → canonical_text f q ≡ canonical_text g r

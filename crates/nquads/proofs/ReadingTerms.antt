@@ -74,10 +74,12 @@ end_then x y r u (Some k) (Some l) i j e =
     let parts : (k ≡ l) × (r ≡ u) = cut_once 32 k l r u (language_absent 32 k (omega arith) refl refl i.1.1) (language_absent 32 l (omega arith) refl refl j.1.1) tails in
     (i.1.0 ∙ sym j.1.0, ap (λ (t : List ℕ). Some t) parts.0, parts.1)
 
+quoted : (s end r : List ℕ) → ((s ++ 34 ∷ []) ++ end) ++ 32 ∷ r ≡ s ++ 34 ∷ (end ++ 32 ∷ r)
+quoted s end r = append_assoc (s ++ 34 ∷ []) end (32 ∷ r) ∙ append_assoc s (34 ∷ []) (end ++ 32 ∷ r)
+
 pub literal_then : (s t x y r u : List ℕ) (k l : Option (List ℕ)) → IsTerm (literal s x k) → IsTerm (literal t y l) → literal_text s x k ++ 32 ∷ r ≡ literal_text t y l ++ 32 ∷ u → (literal s x k ≡ literal t y l) × (r ≡ u)
 literal_then s t x y r u k l i j e =
-    let tails : (flat_map escape s ++ 34 ∷ literal_end x k) ++ 32 ∷ r ≡ (flat_map escape t ++ 34 ∷ literal_end y l) ++ 32 ∷ u = cc in
-    let whole : flat_map escape s ++ 34 ∷ (literal_end x k ++ 32 ∷ r) ≡ flat_map escape t ++ 34 ∷ (literal_end y l ++ 32 ∷ u) = sym (append_assoc (flat_map escape s) (34 ∷ literal_end x k) (32 ∷ r)) ∙ tails ∙ append_assoc (flat_map escape t) (34 ∷ literal_end y l) (32 ∷ u) in
+    let whole : flat_map escape s ++ 34 ∷ (literal_end x k ++ 32 ∷ r) ≡ flat_map escape t ++ 34 ∷ (literal_end y l ++ 32 ∷ u) = sym (quoted (flat_map escape s) (literal_end x k) r) ∙ ap tail e ∙ quoted (flat_map escape t) (literal_end y l) u in
     let texts : (s ≡ t) × (literal_end x k ++ 32 ∷ r ≡ literal_end y l ++ 32 ∷ u) = quoted_one_reading s t (literal_end x k ++ 32 ∷ r) (literal_end y l ++ 32 ∷ u) whole in
     let ends : (x ≡ y) × (k ≡ l) × (r ≡ u) = end_then x y r u k l i j texts.1 in
     let text : s ≡ t = texts.0 in

@@ -23,8 +23,8 @@ abbrev pub mentions : Blank → Statement → Bool
 mentions n s = list_any (same_blank n) (blanks_of s)
 
 -- a blank node's statements, each once however often it stands in them. -- RDF Canonicalization, 4.4.3, step 2
-abbrev pub about : List Statement → Blank → List Statement
-about q n = filter (mentions n) q
+abbrev pub mention_set : List Statement → Blank → List Statement
+mention_set q n = filter (mentions n) q
 
 -- the blank node itself is `_:a`, each other one `_:z`. -- RDF Canonicalization, 4.6.3, step 3
 abbrev pub mark : Blank → Blank → List ℕ
@@ -33,7 +33,7 @@ mark n b = if same_blank n b then codes "a" else codes "z"
 -- The first-degree hash: the digest of the node's lines, so marked, in code-point order and joined.
 -- RDF Canonicalization, 4.6.3
 abbrev pub first_degree_hash : (List ℕ → List ℕ) → List Statement → Blank → List ℕ
-first_degree_hash digest q n = digest (concat (in_order (map (line (mark n)) (about q n))))
+first_degree_hash digest q n = digest (concat (in_order (map (line (mark n)) (mention_set q n))))
 
 -- a blank node, by its text, with a hash
 abbrev pub blank_hash : List ℕ → List ℕ → BlankHash

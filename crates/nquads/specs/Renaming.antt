@@ -58,9 +58,9 @@ pub record IsRenaming (r : List Pair) : Type 0 where
   pub targets : AllDiffer (map (λ p. p.to) r)
 
 -- what the renaming puts in the place of b, and b itself where it does not name b
-abbrev pub applied : List Pair → Blank → Blank
-applied [] b = b
-applied (p ∷ ps) b = if same_blank p.from b then p.to else applied ps b
+abbrev pub image : List Pair → Blank → Blank
+image [] b = b
+image (p ∷ ps) b = if same_blank p.from b then p.to else image ps b
 
 -- the renaming names each blank node of the dataset
 abbrev pub NamesAll : List Pair → List Statement → Type 0
@@ -71,4 +71,4 @@ pub record Same (first second : List Statement) : Type 0 where
   pub pairs : List Pair
   pub renaming : IsRenaming pairs
   pub names : NamesAll pairs first
-  pub renamed : SameElements (map (rename (applied pairs)) first) second
+  pub elements : SameElements (map (rename (image pairs)) first) second

@@ -65,7 +65,7 @@ is_label_character c = is_letter c || is_digit c || (c == 95) || (c == 58) || (c
 
 -- A label of a blank node: not empty, with `-` and `.` not first and `.` not last. -- RDF 1.1 N-Quads, 4, BLANK_NODE_LABEL
 pub record IsLabel (text : List ℕ) : Type 0 where
-  pub filled : text ≢ []
+  pub not_empty : text ≢ []
   pub characters : All (λ c. is_label_character c ≡ true) text
   pub first : (slice_index text 0 ≢ 45) × (slice_index text 0 ≢ 46)
   pub last : slice_index text (length text - 1) ≢ 46

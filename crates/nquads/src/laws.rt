@@ -10,7 +10,7 @@ ghost use Rattle.nquads.specs.Lines.{
   with_labels,
   line,
 };
-ghost use Rattle.nquads.specs.Renaming.{IsOneToOne, Same, applied, rename};
+ghost use Rattle.nquads.specs.Renaming.{IsOneToOne, Same, image, rename};
 ghost use Rattle.nquads.specs.Spelling.{escape, text_quad, spelling};
 ghost use Rattle.nquads.specs.Terms.{Blank, by_node, IsDataset, IsStatement, IsTerm, Statement, Term, iri, literal, blank, rdf_lang_string, xsd_string};
 ghost use Rattle.std.specs.List.{concat, flat_map};
@@ -77,7 +77,7 @@ pub fn renaming_carries_labels()
     ensures line { (f : Blank → List ℕ) (h : Blank → Blank) (s : Statement)
         → line f (rename h s) ≡ line (λ b. f (h b)) s }
     ensures text { (f : Blank → List ℕ) (q r : List Statement) (s : Same q r)
-        → canonical_text f r ≡ canonical_text (λ b. f (applied s.pairs b)) q }
+        → canonical_text f r ≡ canonical_text (λ b. f (image s.pairs b)) q }
 {}
 
 /// A renaming keeps statements well formed, and a dataset without repeats.
@@ -102,7 +102,7 @@ pub fn same_is_an_equivalence()
 pub fn same_is_a_map_one_to_one()
     ensures from_map { (f : Blank → Blank) (q r : List Statement) → IsOneToOne f q
         → SameElements (map (rename f) q) r → Same q r }
-    ensures to_map { (q r : List Statement) (s : Same q r) → IsOneToOne (applied s.pairs) q }
+    ensures to_map { (q r : List Statement) (s : Same q r) → IsOneToOne (image s.pairs) q }
 {}
 
 /// Worked rows: the escapes, the first and the last byte of each range of them, and three whole lines.

@@ -1,16 +1,68 @@
-ghost use Rattle.std.specs.Prelude.{◌≡◌, List, ◌++◌, map, All, IfSome, IfOk, OnOk, IsTrue, ◌↔◌};
+//! The lines and the text of a dataset (RDF Dataset Canonicalization, the canonical form of N-Quads).
+
+ghost use Rattle.std.specs.Prelude.{◌≡◌, List, ◌++◌, map, All, IfOk, OnOk, IsTrue, ◌↔◌};
 ghost use Rattle.std.specs.List.{concat};
 ghost use Rattle.base_types.specs.Sets.{SameElements};
 ghost use Rattle.nquads.specs.Terms.{Statement};
 ghost use Rattle.nquads.specs.Spelling.{text_quad};
-ghost use Rattle.nquads.specs.Lines.{line, canonical_text};
-ghost use Rattle.nquads.specs.Texts.{label_in, IsNamed, Names, graph_part_text, part_text, text_line};
+ghost use Rattle.nquads.specs.Lines.{line, canonical_lines, canonical_text};
+ghost use Rattle.nquads.specs.Texts.{is_blank, label_in, label_text, IsNamed, Names, graph_part_text, part_text, text_line};
 
-use crate::labels::TextLabels;
+use crate::labels::{BlankLabels, TextLabels};
 use crate::quads::{TextQuad, TextQuads};
 use crate::spelling::text_with_room;
-use base_types::{Memory, Text};
+use base_types::{Memory, Sequence, Text};
 use std::alloc::Global;
+
+/// The canonical lines of a dataset: those of its statements in code-point order, each once. RDF
+/// Dataset Canonicalization, 4.4, the serialized canonical form.
+///
+/// # Errors
+///
+/// `Memory`: there is no memory for the lines.
+pub fn canonical_lines(
+    alloc: Global,
+    quads: &TextQuads,
+    labels: &TextLabels,
+) -> Result<Sequence<Text>, Memory>
+    ensures { (q : List Statement) → SameElements quads.now (map text_quad q)
+        → IfOk result (λ lines. lines ≡ canonical_lines (label_in labels.now) q) }
+{
+    let mut lines = lines_of(alloc, quads.as_slice(), labels)?;
+    lines.sort_unstable();
+    lines.dedup();
+    Ok(Sequence::from_vec(lines))
+}
+
+/// The canonical text of a dataset: its canonical lines, one after another. RDF Dataset
+/// Canonicalization, 4.4, the serialized canonical form.
+///
+/// # Errors
+///
+/// `Memory`: there is no memory for the lines or the text.
+pub fn text_of(alloc: Global, quads: &TextQuads, labels: &TextLabels) -> Result<Vec<u8>, Memory>
+    ensures { (q : List Statement) → SameElements quads.now (map text_quad q)
+        → IfOk result (λ bytes. bytes.items ≡ canonical_text (label_in labels.now) q) }
+{
+    let lines = canonical_lines(alloc, quads, labels)?;
+    let text = join(alloc, lines.as_slice())?;
+    Ok(text)
+}
+
+/// The texts, one after another.
+///
+/// # Errors
+///
+/// `Memory`: there is no memory for the joined text.
+pub fn join(alloc: Global, texts: &[Text]) -> Result<Vec<u8>, Memory>
+    ensures { IfOk result (λ bytes. bytes.items ≡ concat texts.now) }
+{
+    let mut bytes = Vec::new(alloc);
+    for text in texts {
+        bytes.extend_from_slice(text.as_bytes())?;
+    }
+    Ok(bytes)
+}
 
 /// The canonical line of a statement, LF included, in which each blank node has its label. RDF Dataset
 /// Canonicalization, the canonical form of N-Quads.
@@ -19,32 +71,45 @@ use std::alloc::Global;
 ///
 /// `Memory`: there is no memory for the line.
 pub fn line_of(alloc: Global, quad: &TextQuad, labels: &TextLabels) -> Result<Text, Memory>
-    requires { Names labels.now quad.now }
-    ensures { (s : Statement) → quad.now ≡ text_quad s → IfOk result (λ t. t ≡ line (label_in labels.now) s) }
+    ensures { (s : Statement) → quad.now ≡ text_quad s
+        → IfOk result (λ t. t ≡ line (label_in labels.now) s) }
 {
-    let line = written(alloc, quad, labels)?;
+    let line = write_line(alloc, quad, labels)?;
     Ok(line)
 }
 
-/// The canonical text of a dataset: the lines of its statements in code-point order, each once. RDF
-/// Dataset Canonicalization, 4.4, the serialized canonical form.
+/// Whether a part of a text quad is a blank node.
+pub fn is_blank(part: &Text) -> bool
+    ensures { result ≡ is_blank part.now }
+{
+    part.as_bytes().first() == Some(&b'_')
+}
+
+/// The line of a text quad, LF included, with any labels.
 ///
 /// # Errors
 ///
-/// `Memory`: there is no memory for the lines or the text.
-pub fn text_of(alloc: Global, quads: &TextQuads, labels: &TextLabels) -> Result<Vec<u8>, Memory>
-    requires { All (Names labels.now) quads.now }
-    ensures { (q : List Statement) → SameElements quads.now (map text_quad q)
-        → IfOk result (λ bytes. bytes.items ≡ canonical_text (label_in labels.now) q) }
+/// `Memory`: there is no memory for the line.
+pub fn write_line<L: BlankLabels>(
+    alloc: Global,
+    quad: &TextQuad,
+    labels: &L,
+) -> Result<Text, Memory>
+    ensures { IfOk result (λ t. t ≡ text_line (L.label_of labels.now) quad.now) }
 {
-    let mut lines = lines_of(alloc, quads.as_slice(), labels)?;
-    lines.sort_unstable();
-    lines.dedup();
-    let text = joined(alloc, lines.as_slice())?;
-    Ok(text)
+    let mut out = text_with_room(alloc, room_for(quad))?;
+    push_part(&mut out, &quad.subject, labels)?;
+    out.push_str(" ")?;
+    out.push_str(quad.predicate.as_str())?;
+    out.push_str(" ")?;
+    push_part(&mut out, &quad.object, labels)?;
+    out.push_str(" ")?;
+    push_graph(&mut out, &quad.graph, labels)?;
+    out.push_str(".\n")?;
+    Ok(out)
 }
 
-/// Whether `labels` name each blank node of the statement, which is what `line_of` asks.
+/// Whether `labels` name each blank node of the statement.
 pub fn names(labels: &TextLabels, quad: &TextQuad) -> bool
     ensures { IsTrue result ↔ Names labels.now quad.now }
 {
@@ -56,7 +121,7 @@ pub fn names(labels: &TextLabels, quad: &TextQuad) -> bool
         }
 }
 
-/// The same of each statement of a dataset, which is what `text_of` asks.
+/// The same of each statement of a dataset.
 pub fn names_all(labels: &TextLabels, quads: &TextQuads) -> bool
     ensures { IsTrue result ↔ All (Names labels.now) quads.now }
 {
@@ -69,26 +134,16 @@ fn is_named(labels: &TextLabels, part: &Text) -> bool
     part.as_bytes().first() != Some(&b'_') || labels.get(part.as_str()).is_some()
 }
 
+/// The line of each statement, in their order.
 fn lines_of(alloc: Global, quads: &[TextQuad], labels: &TextLabels) -> Result<Vec<Text>, Memory>
-    requires { All (Names labels.now) quads.now }
-    ensures { IfOk result (λ lines. lines.items ≡ map (text_line labels.now) quads.now) }
+    ensures { IfOk result (λ lines. lines.items ≡ map (text_line (label_text labels.now)) quads.now) }
 {
     let mut lines = Vec::new(alloc);
     for quad in quads {
-        let line = written(alloc, quad, labels)?;
+        let line = write_line(alloc, quad, labels)?;
         lines.push(line)?;
     }
     Ok(lines)
-}
-
-fn joined(alloc: Global, lines: &[Text]) -> Result<Vec<u8>, Memory>
-    ensures { IfOk result (λ bytes. bytes.items ≡ concat lines.now) }
-{
-    let mut bytes = Vec::new(alloc);
-    for line in lines {
-        bytes.extend_from_slice(line.as_bytes())?;
-    }
-    Ok(bytes)
 }
 
 /// About as many bytes as the line has: the parts, a space behind each, a dot and LF.
@@ -105,26 +160,13 @@ fn room_for(quad: &TextQuad) -> usize {
         .saturating_add(6)
 }
 
-fn written(alloc: Global, quad: &TextQuad, labels: &TextLabels) -> Result<Text, Memory>
-    requires { Names labels.now quad.now }
-    ensures { IfOk result (λ t. t ≡ text_line labels.now quad.now) }
-{
-    let mut out = text_with_room(alloc, room_for(quad))?;
-    push_part(&mut out, &quad.subject, labels)?;
-    out.push_str(" ")?;
-    out.push_str(quad.predicate.as_str())?;
-    out.push_str(" ")?;
-    push_part(&mut out, &quad.object, labels)?;
-    out.push_str(" ")?;
-    push_graph(&mut out, &quad.graph, labels)?;
-    out.push_str(".\n")?;
-    Ok(out)
-}
-
 /// The graph and a space, or nothing for the default graph.
-fn push_graph(out: &mut Text, graph: &Option<Text>, labels: &TextLabels) -> Result<(), Memory>
-    requires { IfSome graph.now (IsNamed labels.now) }
-    ensures { OnOk result (out.new ≡ out.old ++ graph_part_text labels.now graph.now) }
+fn push_graph<L: BlankLabels>(
+    out: &mut Text,
+    graph: &Option<Text>,
+    labels: &L,
+) -> Result<(), Memory>
+    ensures { OnOk result (out.new ≡ out.old ++ graph_part_text (L.label_of labels.now) graph.now) }
 {
     if let Some(graph) = graph {
         push_part(out, graph, labels)?;
@@ -134,14 +176,12 @@ fn push_graph(out: &mut Text, graph: &Option<Text>, labels: &TextLabels) -> Resu
 }
 
 /// A part of a line: `_:` and the label of a blank node, and any other part as it is spelled.
-fn push_part(out: &mut Text, part: &Text, labels: &TextLabels) -> Result<(), Memory>
-    requires { IsNamed labels.now part.now }
-    ensures { OnOk result (out.new ≡ out.old ++ part_text labels.now part.now) }
+fn push_part<L: BlankLabels>(out: &mut Text, part: &Text, labels: &L) -> Result<(), Memory>
+    ensures { OnOk result (out.new ≡ out.old ++ part_text (L.label_of labels.now) part.now) }
 {
-    if part.as_bytes().first() == Some(&b'_') {
-        let label = labels.get(part.as_str()).unwrap();
+    if is_blank(part) {
         out.push_str("_:")?;
-        return out.push_str(label.as_str());
+        return labels.push_label(out, part.as_str());
     }
     out.push_str(part.as_str())
 }

@@ -1,3 +1,5 @@
+//! Statements and datasets as the program keeps them: as texts (RDF 1.1 N-Quads, 4).
+
 ghost use Rattle.std.specs.Prelude.{◌≡◌, ◌↔◌, [], length, IsTrue};
 ghost use Rattle.base_types.specs.Sets.{SameElements, AllDiffer};
 

@@ -1,7 +1,9 @@
-ghost use Rattle.std.specs.Prelude.{◌≡◌, ◌<◌, ◌/◌, ◌%◌, [], ◌∷◌, ◌++◌, IfOk, OnOk, encode_utf8};
+//! How IRIs and literals are written (RDF Dataset Canonicalization, the canonical form of N-Quads).
+
+ghost use Rattle.std.specs.Prelude.{◌≡◌, ◌<◌, ◌/◌, ◌%◌, [], ◌∷◌, ◌++◌, IfOk, OnOk, codes, encode_utf8};
 ghost use Rattle.std.specs.List.{flat_map};
 ghost use Rattle.std.specs.Option.{option_copied};
-ghost use Rattle.nquads.specs.Spelling.{escape, hex_digit, iri_text, literal_end, literal_text};
+ghost use Rattle.nquads.specs.Spelling.{escape, hex_digit, hex_escape, iri_text, literal_end, literal_text};
 
 use base_types::{Memory, Text};
 use std::alloc::Global;
@@ -69,7 +71,7 @@ fn push_end(out: &mut Text, datatype: &str, language: Option<&str>) -> Result<()
 }
 
 fn push_datatype(out: &mut Text, datatype: &str) -> Result<(), Memory>
-    ensures { OnOk result (out.new ≡ out.old ++ 94 ∷ 94 ∷ iri_text datatype.now) }
+    ensures { OnOk result (out.new ≡ out.old ++ (codes "^^" ++ iri_text datatype.now)) }
 {
     out.push_str("^^<")?;
     out.push_str(datatype)?;
@@ -105,7 +107,7 @@ fn push_character(out: &mut Text, character: char) -> Result<(), Memory>
 /// `\u00` and the two hexadecimal digits of a control character.
 fn push_code(out: &mut Text, code: u8) -> Result<(), Memory>
     requires { code < 128 }
-    ensures { OnOk result (out.new ≡ out.old ++ (92 ∷ 117 ∷ 48 ∷ 48 ∷ hex_digit (code / 16) ∷ hex_digit (code % 16) ∷ [])) }
+    ensures { OnOk result (out.new ≡ out.old ++ hex_escape code) }
 {
     out.push_str("\\u00")?;
     out.push(digit(code / 16))?;

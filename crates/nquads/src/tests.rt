@@ -1,3 +1,5 @@
+//! Tests of spellings, lines and texts. Expected texts are those of the standard, or were typed by hand.
+
 use crate::{
     Memory, Text, TextLabels, TextQuad, TextQuads, iri, line_of, literal, names, names_all, text_of,
 };

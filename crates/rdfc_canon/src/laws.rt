@@ -3,7 +3,7 @@
 ghost use Rattle.std.specs.Prelude.{◌≡◌, ◌↔◌, ℕ, List, map, true, false, Contains, IsPermutation};
 ghost use Rattle.base_types.specs.Sets.{AllDiffer};
 ghost use Rattle.nquads.specs.Terms.{Blank, IsDataset, Statement};
-ghost use Rattle.nquads.specs.Renaming.{Same, StandsIn, applied};
+ghost use Rattle.nquads.specs.Renaming.{Same, StandsIn, image};
 ghost use Rattle.nquads.specs.Lines.{canonical_text};
 ghost use Rattle.rdfc_ndegree.specs.Issuers.{canonical_id};
 ghost use Rattle.rdfc_ndegree.specs.Datasets.{nodes_of};
@@ -41,7 +41,7 @@ pub fn names_do_not_matter()
     ensures depth { (digest : List ℕ → List ℕ) (q p : List Statement) (n : ℕ) → Same q p → IsDataset q → IsDataset p
         → DepthOver (nodes_of digest q) n ↔ DepthOver (nodes_of digest p) n }
     ensures labels { (digest : List ℕ → List ℕ) (q p : List Statement) (s : Same q p) (c : List Blank) → IsDataset q → IsDataset p
-        → HasLabels (nodes_of digest q) c → HasLabels (nodes_of digest p) (map (applied s.pairs) c) }
+        → HasLabels (nodes_of digest q) c → HasLabels (nodes_of digest p) (map (image s.pairs) c) }
     ensures text { (digest : List ℕ → List ℕ) (q p : List Statement) (c d : List Blank) → Same q p → IsDataset q → IsDataset p
         → HasLabels (nodes_of digest q) c → HasLabels (nodes_of digest p) d
         → canonical_text (canonical_id (nodes_of digest q) c) q ≡ canonical_text (canonical_id (nodes_of digest p) d) p }

@@ -15,7 +15,7 @@ use Rattle.nquads.specs.Terms.{Blank, Statement}
 use Rattle.nquads.specs.Renaming.{blanks_of, StandsIn}
 use Rattle.nquads.specs.Spelling.{blank_text, text_quad}
 use Rattle.nquads.specs.Lines.{line}
-use Rattle.nquads.specs.FirstDegree.{mentions, about, mark, first_degree_hash, blank_hash, AreFirstHashes}
+use Rattle.nquads.specs.FirstDegree.{mentions, mention_set, mark, first_degree_hash, blank_hash, AreFirstHashes}
 use Rattle.nquads.specs.declared.hashes.BlankHash.{BlankHash}
 use Rattle.nquads.proofs.ReadingBlanks.{to_blanks_in, from_blanks_in}
 use Rattle.rdfc_first.specs.declared.seen.MarkedLine.{MarkedLine}
@@ -51,8 +51,8 @@ module _ (q : List Statement) (lines sorted : List MarkedLine) (made : lines ≡
   to_blanks : (n : Blank) → StandsIn q n → Contains (sorted_set (map blank_of sorted)) (blank_text n)
   to_blanks n stands =
       let at = from_blanks_in q n stands in
-      let told : Contains (about q n) at.statement = Contains-filter (mentions n) q at.statement (mentioned n (blanks_of at.statement) at.blank_node) at.within in
-      let lined : Contains (lines_for (blank_text n) (flat_map seen (map text_quad q))) (line (mark n) at.statement) = subst (λ ls. Contains ls (line (mark n) at.statement)) (sym (lines_for-dataset n q)) (Contains-map (line (mark n)) (about q n) at.statement told) in
+      let told : Contains (mention_set q n) at.statement = Contains-filter (mentions n) q at.statement (mentioned n (blanks_of at.statement) at.blank_node) at.within in
+      let lined : Contains (lines_for (blank_text n) (flat_map seen (map text_quad q))) (line (mark n) at.statement) = subst (λ ls. Contains ls (line (mark n) at.statement)) (sym (lines_for-dataset n q)) (Contains-map (line (mark n)) (mention_set q n) at.statement told) in
       let p = λ (m : MarkedLine). bytes_eq m.blank (blank_text n) in
       let m = Contains-from_map (λ (m : MarkedLine). m.line) (filter p (flat_map seen (map text_quad q))) (line (mark n) at.statement) lined in
       let same : m.0.blank ≡ blank_text n = (bytes_eq-Decides m.0.blank (blank_text n)).0 (filter-passes p (flat_map seen (map text_quad q)) m.0 m.1) in

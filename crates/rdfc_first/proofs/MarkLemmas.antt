@@ -11,7 +11,7 @@ use Rattle.nquads.specs.Terms.{Blank, Term, iri, literal, blank, Statement}
 use Rattle.nquads.specs.Renaming.{same_blank, blanks_of_term, blanks_of_graph, blanks_of}
 use Rattle.nquads.specs.Spelling.{blank_text, spelling, text_quad}
 use Rattle.nquads.specs.Lines.{term_text, graph_text, line}
-use Rattle.nquads.specs.FirstDegree.{mentions, about, mark}
+use Rattle.nquads.specs.FirstDegree.{mentions, mention_set, mark}
 use Rattle.nquads.specs.declared.quads.TextQuad.{TextQuad}
 use Rattle.nquads.proofs.ReadingTerms.{blank_text_one_reading}
 use Rattle.nquads.proofs.ReadingBlanks.{same_blank-true, same_blank-itself}
@@ -178,7 +178,7 @@ lines_for-seen n s =
 
 -- ---- the lines of a dataset for one blank node
 
-pub lines_for-dataset : (n : Blank) (q : List Statement) → lines_for (blank_text n) (flat_map seen (map text_quad q)) ≡ map (line (mark n)) (about q n)
+pub lines_for-dataset : (n : Blank) (q : List Statement) → lines_for (blank_text n) (flat_map seen (map text_quad q)) ≡ map (line (mark n)) (mention_set q n)
 lines_for-dataset n [] = refl
 lines_for-dataset n (s ∷ q) =
     let p = λ (m : MarkedLine). bytes_eq m.blank (blank_text n) in
@@ -187,7 +187,7 @@ lines_for-dataset n (s ∷ q) =
     ∙ (λ i. lines_for-seen n s i ++ lines_for-dataset n q i)
     ∙ go (mentions n s)
   where
-    go : (b : Bool) → cond b (line (mark n) s ∷ []) [] ++ map (line (mark n)) (about q n) ≡ map (line (mark n)) (cond b (s ∷ about q n) (about q n))
+    go : (b : Bool) → cond b (line (mark n) s ∷ []) [] ++ map (line (mark n)) (mention_set q n) ≡ map (line (mark n)) (cond b (s ∷ mention_set q n) (mention_set q n))
     go true = refl
     go false = refl
 

@@ -7,7 +7,7 @@ use Rattle.base_types.proofs.Lists.{Contains-from_map}
 use Rattle.nquads.specs.Terms.{Blank, Statement}
 use Rattle.nquads.specs.Renaming.{same_blank, blanks_of_term, blanks_of_graph, blanks_of, StandsIn}
 use Rattle.nquads.specs.Spelling.{iri_text}
-use Rattle.nquads.specs.FirstDegree.{blanks, about, mentions}
+use Rattle.nquads.specs.FirstDegree.{blanks, mention_set, mentions}
 use Rattle.nquads.proofs.ReadingBlanks.{same_blank-true, same_blank-itself, to_blanks_in}
 use Rattle.nquads.proofs.ReadingElements.{All-from_contains}
 use Rattle.rdfc_ndegree.specs.Nodes.{Position, as_subject, as_object, as_graph, Occurrence, AreNodes}
@@ -42,7 +42,7 @@ in_statement n s o k =
 
 pub related_in-stands : (q : List Statement) (n : Blank) (o : Occurrence Blank) → Contains (related_in q n) o → StandsIn q o.blank
 related_in-stands q n o k =
-    let found = Contains-from_flat_map (occurrences_in n) (about q n) o k in
+    let found = Contains-from_flat_map (occurrences_in n) (mention_set q n) o k in
     to_blanks_in q found.0 o.blank (Contains-from_filter (mentions n) q found.0 found.1).0 (in_statement n found.0 o found.2)
 
 pub nodes-lawful : (digest : List ℕ → List ℕ) (q : List Statement) → AreNodes (nodes_of digest q)

@@ -9,10 +9,10 @@ use Rattle.base_types.specs.Order.{sorted_set}
 use Rattle.base_types.proofs.Lists.{Contains-here, Contains-there, Contains-cons_cases, Contains-nil, Contains-map, Contains-from_map, AllByRecursion-contains}
 use Rattle.base_types.proofs.Orders.{in_order-free}
 use Rattle.nquads.specs.Terms.{Blank, Term, iri, literal, blank, Statement, IsDataset}
-use Rattle.nquads.specs.Renaming.{same_blank, blanks_of_term, blanks_of_graph, blanks_of, StandsIn, rename_term, rename, IsOneToOne, applied, Same}
+use Rattle.nquads.specs.Renaming.{same_blank, blanks_of_term, blanks_of_graph, blanks_of, StandsIn, rename_term, rename, IsOneToOne, image, Same}
 use Rattle.nquads.specs.Spelling.{iri_text}
-use Rattle.nquads.specs.Lines.{term_text, graph_text, line, canonical_text}
-use Rattle.nquads.specs.FirstDegree.{blanks, mentions, about, mark, first_degree_hash}
+use Rattle.nquads.specs.Lines.{term_text, graph_text, line_text, line, canonical_text}
+use Rattle.nquads.specs.FirstDegree.{blanks, mentions, mention_set, mark, first_degree_hash}
 use Rattle.nquads.proofs.ReadingElements.{All-from_contains, AllDiffer-map}
 use Rattle.nquads.proofs.ReadingBlanks.{chosen, same_blank-true, same_blank-itself, same_blank-false, rename-rename, rename-itself, blanks_of-rename, to_blanks_in}
 use Rattle.nquads.proofs.ReadingRenamings.{IsDataset-rename, one_to_one-from_Same}
@@ -37,15 +37,12 @@ graph_agree : (f g : Blank → List ℕ) (t : Option Term) → AllByRecursion (�
 graph_agree f g None h = refl
 graph_agree f g (Some t) h = ap (λ (z : List ℕ). z ++ 32 ∷ []) (term_agree f g t h)
 
-abbrev whole_line : List ℕ → List ℕ → List ℕ → List ℕ → List ℕ
-whole_line s p o g = s ++ (32 ∷ (p ++ (32 ∷ (o ++ (32 ∷ (g ++ (46 ∷ 10 ∷ [])))))))
-
 pub line-agree : (f g : Blank → List ℕ) (s : Statement) → AllByRecursion (λ b. f b ≡ g b) (blanks_of s) → line f s ≡ line g s
 line-agree f g s h =
     let rest : AllByRecursion (λ b. f b ≡ g b) (blanks_of_term s.object ++ blanks_of_graph s.graph) = Each-right (λ b. f b ≡ g b) (blanks_of_term s.subject) (blanks_of_term s.object ++ blanks_of_graph s.graph) h in
-    ap (λ (z : List ℕ). whole_line z (iri_text s.predicate) (term_text f s.object) (graph_text f s.graph)) (term_agree f g s.subject (Each-left (λ b. f b ≡ g b) (blanks_of_term s.subject) (blanks_of_term s.object ++ blanks_of_graph s.graph) h))
-    ∙ ap (λ (z : List ℕ). whole_line (term_text g s.subject) (iri_text s.predicate) z (graph_text f s.graph)) (term_agree f g s.object (Each-left (λ b. f b ≡ g b) (blanks_of_term s.object) (blanks_of_graph s.graph) rest))
-    ∙ ap (λ (z : List ℕ). whole_line (term_text g s.subject) (iri_text s.predicate) (term_text g s.object) z) (graph_agree f g s.graph (Each-right (λ b. f b ≡ g b) (blanks_of_term s.object) (blanks_of_graph s.graph) rest))
+    ap (λ (z : List ℕ). line_text z (iri_text s.predicate) (term_text f s.object) (graph_text f s.graph)) (term_agree f g s.subject (Each-left (λ b. f b ≡ g b) (blanks_of_term s.subject) (blanks_of_term s.object ++ blanks_of_graph s.graph) h))
+    ∙ ap (λ (z : List ℕ). line_text (term_text g s.subject) (iri_text s.predicate) z (graph_text f s.graph)) (term_agree f g s.object (Each-left (λ b. f b ≡ g b) (blanks_of_term s.object) (blanks_of_graph s.graph) rest))
+    ∙ ap (λ (z : List ℕ). line_text (term_text g s.subject) (iri_text s.predicate) (term_text g s.object) z) (graph_agree f g s.graph (Each-right (λ b. f b ≡ g b) (blanks_of_term s.object) (blanks_of_graph s.graph) rest))
 
 -- each blank node of the statement stands in the dataset
 abbrev pub InPlace : List Statement → Statement → Type 0
@@ -135,28 +132,28 @@ module _ (f : Blank → Blank) (q : List Statement) (o : IsOneToOne f q) where
 -- ---- the nodes of a renamed dataset
 
 module _ (digest : List ℕ → List ℕ) (f : Blank → Blank) (q r : List Statement) (o : IsOneToOne f q) (s : IsPermutation (map (rename f) q) r) where
-  about-renamed : (n : Blank) → StandsIn q n → IsPermutation (map (rename f) (about q n)) (about r (f n))
+  about-renamed : (n : Blank) → StandsIn q n → IsPermutation (map (rename f) (mention_set q n)) (mention_set r (f n))
   about-renamed n d =
-      subst (λ l. IsPermutation l (about r (f n)))
+      subst (λ l. IsPermutation l (mention_set r (f n)))
       (filter-map (InPlace q) (rename f) (mentions n) (mentions (f n)) (λ t h. mentions-renamed f q o n t d h) q (in_place q))
       (IsPermutation-filter (mentions (f n)) (map (rename f) q) r s)
 
-  about_in_place : (n : Blank) → AllByRecursion (InPlace q) (about q n)
+  about_in_place : (n : Blank) → AllByRecursion (InPlace q) (mention_set q n)
   about_in_place n = Each-filter (InPlace q) (mentions n) q (in_place q)
 
   pub first_degree_hash-renamed : (n : Blank) → StandsIn q n → first_degree_hash digest r (f n) ≡ first_degree_hash digest q n
   first_degree_hash-renamed n d =
-      let lines : map (line (mark (f n))) (map (rename f) (about q n)) ≡ map (line (mark n)) (about q n) =
-      map-map (line (mark (f n))) (rename f) (about q n)
-      ∙ map-agree (InPlace q) (λ t. line (mark (f n)) (rename f t)) (line (mark n)) (λ t h. line-marked f q o n t d h) (about q n) (about_in_place n) in
-      let moved : IsPermutation (map (line (mark n)) (about q n)) (map (line (mark (f n))) (about r (f n))) =
-      subst (λ l. IsPermutation l (map (line (mark (f n))) (about r (f n)))) lines (IsPermutation-map (line (mark (f n))) (map (rename f) (about q n)) (about r (f n)) (about-renamed n d)) in
-      ap (λ (ls : List (List ℕ)). digest (concat ls)) (in_order-free (map (line (mark n)) (about q n)) (map (line (mark (f n))) (about r (f n))) moved)
+      let lines : map (line (mark (f n))) (map (rename f) (mention_set q n)) ≡ map (line (mark n)) (mention_set q n) =
+      map-map (line (mark (f n))) (rename f) (mention_set q n)
+      ∙ map-agree (InPlace q) (λ t. line (mark (f n)) (rename f t)) (line (mark n)) (λ t h. line-marked f q o n t d h) (mention_set q n) (about_in_place n) in
+      let moved : IsPermutation (map (line (mark n)) (mention_set q n)) (map (line (mark (f n))) (mention_set r (f n))) =
+      subst (λ l. IsPermutation l (map (line (mark (f n))) (mention_set r (f n)))) lines (IsPermutation-map (line (mark (f n))) (map (rename f) (mention_set q n)) (mention_set r (f n)) (about-renamed n d)) in
+      ap (λ (ls : List (List ℕ)). digest (concat ls)) (in_order-free (map (line (mark n)) (mention_set q n)) (map (line (mark (f n))) (mention_set r (f n))) moved)
 
   related-renamed : (n : Blank) → StandsIn q n → IsPermutation (map (carried f) (related_in q n)) (related_in r (f n))
   related-renamed n d =
-      subst (λ l. IsPermutation l (related_in r (f n))) (each-renamed f q o n (about q n) d (about_in_place n))
-      (IsPermutation-flat_map (occurrences_in (f n)) (map (rename f) (about q n)) (about r (f n)) (about-renamed n d))
+      subst (λ l. IsPermutation l (related_in r (f n))) (each-renamed f q o n (mention_set q n) d (about_in_place n))
+      (IsPermutation-flat_map (occurrences_in (f n)) (map (rename f) (mention_set q n)) (mention_set r (f n)) (about-renamed n d))
 
   -- A renaming carries the nodes of a dataset to those of the renamed one.
   pub renamed-carries : Carries f (StandsIn q) (nodes_of digest q) (nodes_of digest r)
@@ -276,41 +273,41 @@ module _ (digest : List ℕ → List ℕ) (f : Blank → Blank) (q r : List Stat
 
 -- ---- datasets that are the same up to the names of blank nodes
 
-pub order-from_Same : (q r : List Statement) (e : Same q r) → IsDataset q → IsDataset r → IsPermutation (map (rename (applied e.pairs)) q) r
-order-from_Same q r e i j = IsPermutation-from_elements (map (rename (applied e.pairs)) q) r (IsDataset-rename (applied e.pairs) q (one_to_one-from_Same q r e) i) j e.renamed
+pub order-from_Same : (q r : List Statement) (e : Same q r) → IsDataset q → IsDataset r → IsPermutation (map (rename (image e.pairs)) q) r
+order-from_Same q r e i j = IsPermutation-from_elements (map (rename (image e.pairs)) q) r (IsDataset-rename (image e.pairs) q (one_to_one-from_Same q r e) i) j e.elements
 
 module _ (digest : List ℕ → List ℕ) (q r : List Statement) (e : Same q r) (i : IsDataset q) (j : IsDataset r) where
-  pub Same-carries : Carries (applied e.pairs) (StandsIn q) (nodes_of digest q) (nodes_of digest r)
-  Same-carries = renamed-carries digest (applied e.pairs) q r (one_to_one-from_Same q r e) (order-from_Same q r e i j)
+  pub Same-carries : Carries (image e.pairs) (StandsIn q) (nodes_of digest q) (nodes_of digest r)
+  Same-carries = renamed-carries digest (image e.pairs) q r (one_to_one-from_Same q r e) (order-from_Same q r e i j)
 
-  pub Same-first_degree_hash : (n : Blank) → StandsIn q n → first_degree_hash digest r (applied e.pairs n) ≡ first_degree_hash digest q n
-  Same-first_degree_hash = first_degree_hash-renamed digest (applied e.pairs) q r (one_to_one-from_Same q r e) (order-from_Same q r e i j)
+  pub Same-first_degree_hash : (n : Blank) → StandsIn q n → first_degree_hash digest r (image e.pairs n) ≡ first_degree_hash digest q n
+  Same-first_degree_hash = first_degree_hash-renamed digest (image e.pairs) q r (one_to_one-from_Same q r e) (order-from_Same q r e i j)
 
-  pub Same-IsRun : (x : Result Blank) → IsRun (nodes_of digest q) x → IsRun (nodes_of digest r) (result_f (applied e.pairs) x)
-  Same-IsRun = IsRun-renamed digest (applied e.pairs) q r (one_to_one-from_Same q r e) (order-from_Same q r e i j)
+  pub Same-IsRun : (x : Result Blank) → IsRun (nodes_of digest q) x → IsRun (nodes_of digest r) (result_f (image e.pairs) x)
+  Same-IsRun = IsRun-renamed digest (image e.pairs) q r (one_to_one-from_Same q r e) (order-from_Same q r e i j)
 
   pub Same-MeetsTie : MeetsTie (nodes_of digest q) ↔ MeetsTie (nodes_of digest r)
-  Same-MeetsTie = MeetsTie-renamed digest (applied e.pairs) q r (one_to_one-from_Same q r e) (order-from_Same q r e i j)
+  Same-MeetsTie = MeetsTie-renamed digest (image e.pairs) q r (one_to_one-from_Same q r e) (order-from_Same q r e i j)
 
   pub Same-WorkOver : (n : ℕ) → WorkOver (nodes_of digest q) n ↔ WorkOver (nodes_of digest r) n
-  Same-WorkOver = WorkOver-renamed digest (applied e.pairs) q r (one_to_one-from_Same q r e) (order-from_Same q r e i j)
+  Same-WorkOver = WorkOver-renamed digest (image e.pairs) q r (one_to_one-from_Same q r e) (order-from_Same q r e i j)
 
   pub Same-DepthOver : (n : ℕ) → DepthOver (nodes_of digest q) n ↔ DepthOver (nodes_of digest r) n
-  Same-DepthOver = DepthOver-renamed digest (applied e.pairs) q r (one_to_one-from_Same q r e) (order-from_Same q r e i j)
+  Same-DepthOver = DepthOver-renamed digest (image e.pairs) q r (one_to_one-from_Same q r e) (order-from_Same q r e i j)
 
   pub Same-WithinLimits : (work depth : ℕ) → WithinLimits (nodes_of digest q) work depth ↔ WithinLimits (nodes_of digest r) work depth
-  Same-WithinLimits = WithinLimits-renamed digest (applied e.pairs) q r (one_to_one-from_Same q r e) (order-from_Same q r e i j)
+  Same-WithinLimits = WithinLimits-renamed digest (image e.pairs) q r (one_to_one-from_Same q r e) (order-from_Same q r e i j)
 
-  pub Same-HasLabels : (c : List Blank) → HasLabels (nodes_of digest q) c → HasLabels (nodes_of digest r) (map (applied e.pairs) c)
-  Same-HasLabels = HasLabels-renamed digest (applied e.pairs) q r (one_to_one-from_Same q r e) (order-from_Same q r e i j)
+  pub Same-HasLabels : (c : List Blank) → HasLabels (nodes_of digest q) c → HasLabels (nodes_of digest r) (map (image e.pairs) c)
+  Same-HasLabels = HasLabels-renamed digest (image e.pairs) q r (one_to_one-from_Same q r e) (order-from_Same q r e i j)
 
   pub Same-labels_inside : (c : List Blank) → HasLabels (nodes_of digest q) c → AllByRecursion (StandsIn q) c
-  Same-labels_inside = labels-StandsIn digest (applied e.pairs) q r (one_to_one-from_Same q r e) (order-from_Same q r e i j)
+  Same-labels_inside = labels-StandsIn digest (image e.pairs) q r (one_to_one-from_Same q r e) (order-from_Same q r e i j)
 
   -- a blank node keeps its number
-  pub Same-number : (c : List Blank) (b : Blank) → HasLabels (nodes_of digest q) c → Contains (blanks q) b → number (nodes_of digest r) (map (applied e.pairs) c) (applied e.pairs b) ≡ number (nodes_of digest q) c b
-  Same-number c b h m = number-renamed digest (applied e.pairs) q r (one_to_one-from_Same q r e) (order-from_Same q r e i j) c b (Same-labels_inside c h) ((blanks-all q b).1 m)
+  pub Same-number : (c : List Blank) (b : Blank) → HasLabels (nodes_of digest q) c → Contains (blanks q) b → number (nodes_of digest r) (map (image e.pairs) c) (image e.pairs b) ≡ number (nodes_of digest q) c b
+  Same-number c b h m = number-renamed digest (image e.pairs) q r (one_to_one-from_Same q r e) (order-from_Same q r e i j) c b (Same-labels_inside c h) ((blanks-all q b).1 m)
 
   -- and the canonical text is the same
-  pub Same-canonical_text : (c : List Blank) → HasLabels (nodes_of digest q) c → canonical_text (canonical_id (nodes_of digest r) (map (applied e.pairs) c)) r ≡ canonical_text (canonical_id (nodes_of digest q) c) q
-  Same-canonical_text c h = canonical_text-renamed digest (applied e.pairs) q r (one_to_one-from_Same q r e) (order-from_Same q r e i j) c (Same-labels_inside c h)
+  pub Same-canonical_text : (c : List Blank) → HasLabels (nodes_of digest q) c → canonical_text (canonical_id (nodes_of digest r) (map (image e.pairs) c)) r ≡ canonical_text (canonical_id (nodes_of digest q) c) q
+  Same-canonical_text c h = canonical_text-renamed digest (image e.pairs) q r (one_to_one-from_Same q r e) (order-from_Same q r e i j) c (Same-labels_inside c h)

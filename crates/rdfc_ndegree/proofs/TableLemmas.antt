@@ -17,7 +17,7 @@ use Rattle.nquads.specs.Terms.{Blank, Term, iri, literal, blank, Statement}
 use Rattle.nquads.specs.Renaming.{same_blank, blanks_of_term, blanks_of_graph, blanks_of, StandsIn}
 use Rattle.nquads.specs.Spelling.{blank_text, spelling, text_quad, iri_text}
 use Rattle.nquads.specs.Lines.{line}
-use Rattle.nquads.specs.FirstDegree.{mentions, about, mark, first_degree_hash, blank_hash, AreFirstHashes}
+use Rattle.nquads.specs.FirstDegree.{mentions, mention_set, mark, first_degree_hash, blank_hash, AreFirstHashes}
 use Rattle.nquads.specs.declared.hashes.BlankHash.{BlankHash}
 use Rattle.nquads.specs.declared.quads.TextQuad.{TextQuad}
 use Rattle.nquads.proofs.ReadingTerms.{blank_text_one_reading}
@@ -265,7 +265,7 @@ module _ (bs : List Blank) (differ : AllDiffer bs) (k : ℕ) (b : Blank) (at_k :
       subst (λ os. AllZip (IsOccurrence bs) os (related_in (s ∷ q) b)) (sym split)
       (go (stands k (numbers s)) (mentions b s) (stands-mentions s within) (statement_links s within) rest)
     where
-      go : (t u : Bool) → t ≡ u → AllZip (IsOccurrence bs) (map occurrence_of (links k (numbers s))) (occurrences_in b s) → AllZip (IsOccurrence bs) (map occurrence_of (flat_map (given k) (map numbers q))) (related_in q b) → AllZip (IsOccurrence bs) (map occurrence_of (cond t (links k (numbers s)) []) ++ map occurrence_of (flat_map (given k) (map numbers q))) (flat_map (occurrences_in b) (cond u (s ∷ about q b) (about q b)))
+      go : (t u : Bool) → t ≡ u → AllZip (IsOccurrence bs) (map occurrence_of (links k (numbers s))) (occurrences_in b s) → AllZip (IsOccurrence bs) (map occurrence_of (flat_map (given k) (map numbers q))) (related_in q b) → AllZip (IsOccurrence bs) (map occurrence_of (cond t (links k (numbers s)) []) ++ map occurrence_of (flat_map (given k) (map numbers q))) (flat_map (occurrences_in b) (cond u (s ∷ mention_set q b) (mention_set q b)))
       go true true e first rest = AllZip-append (IsOccurrence bs) (map occurrence_of (links k (numbers s))) (map occurrence_of (flat_map (given k) (map numbers q))) (occurrences_in b s) (related_in q b) first rest
       go true false e first rest = absurd (false≢true (sym e))
       go false true e first rest = absurd (false≢true e)
@@ -273,11 +273,11 @@ module _ (bs : List Blank) (differ : AllDiffer bs) (k : ℕ) (b : Blank) (at_k :
 
 -- ---- the rows before they have related nodes
 
-about-nothing : (q : List Statement) (b : Blank) → ((s : Statement) → Contains q s → Contains (blanks_of s) b → ⊥) → about q b ≡ []
+about-nothing : (q : List Statement) (b : Blank) → ((s : Statement) → Contains q s → Contains (blanks_of s) b → ⊥) → mention_set q b ≡ []
 about-nothing [] b none = refl
 about-nothing (s ∷ q) b none = go (mentions b s) refl (about-nothing q b (λ t m. none t (Contains-there s q t m)))
   where
-    go : (t : Bool) → mentions b s ≡ t → about q b ≡ [] → cond t (s ∷ about q b) (about q b) ≡ []
+    go : (t : Bool) → mentions b s ≡ t → mention_set q b ≡ [] → cond t (s ∷ mention_set q b) (mention_set q b) ≡ []
     go true e rest = absurd (none s (Contains-here s q) (list_any-Contains b (blanks_of s) e))
     go false e rest = rest
 
@@ -353,7 +353,7 @@ module _ (q : List Statement) (firsts : List BlankHash) (cs : List Blank) where
 
   unknown_row : (b : Blank) → (StandsIn q b → ⊥) → new_row (unknown (blank_text b)) ≡ bare b
   unknown_row b free =
-      let nothing : about q b ≡ [] = about-nothing q b (λ s m n. free (to_blanks_in q s b m n)) in
+      let nothing : mention_set q b ≡ [] = about-nothing q b (λ s m n. free (to_blanks_in q s b m n)) in
       ap (λ ss. record { blank = blank_text b; first = sha256_digits (concat (in_order (map (line (mark b)) ss))); related = [] }) (sym nothing)
 
   one_more : (rows : List NodeRow) (u : Blank) → IsState rows → Contains cs u → IsState (with_row rows (unknown (blank_text u)))

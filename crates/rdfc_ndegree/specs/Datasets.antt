@@ -3,7 +3,7 @@ use Rattle.std.specs.Prelude.{ℕ, List, ◌++◌, not, map, filter, flat_map}
 use Rattle.nquads.specs.Terms.{Blank, Statement}
 use Rattle.nquads.specs.Renaming.{same_blank, blanks_of_term, blanks_of_graph}
 use Rattle.nquads.specs.Spelling.{iri_text}
-use Rattle.nquads.specs.FirstDegree.{blanks, about, first_degree_hash}
+use Rattle.nquads.specs.FirstDegree.{blanks, mention_set, first_degree_hash}
 use Rattle.rdfc_ndegree.specs.Nodes.{Position, as_subject, as_object, as_graph, Occurrence, Nodes}
 
 abbrev pub occurrence : {B : Type 0} → Position → List ℕ → B → Occurrence B
@@ -22,7 +22,7 @@ occurrences_in n s =
 
 -- the related blank nodes of a node, once for each occurrence in its statements
 abbrev pub related_in : List Statement → Blank → List (Occurrence Blank)
-related_in q n = flat_map (occurrences_in n) (about q n)
+related_in q n = flat_map (occurrences_in n) (mention_set q n)
 
 -- The blank nodes of a dataset, with the digest of a text in hexadecimal digits.
 abbrev pub nodes_of : (List ℕ → List ℕ) → List Statement → Nodes Blank

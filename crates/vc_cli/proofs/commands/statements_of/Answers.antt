@@ -2,11 +2,6 @@ use Rattle.std.proofs.Common.{◌∙◌}
 use Rattle.vc_cli.proofs.Facts.{flat_named_by, text_without, same_from}
 use Rattle.vc_cli.proofs.commands.statements_of.Goals as goal
 
-pub text_of-requires : goal.text_of-requires
-text_of-requires c =
-    let flat = c.in-Ok.ensures.ok.1 in
-    flat_named_by c.args.request.now _ _ flat.0 c.new.ensures flat.2 flat.1.exact
-
 pub returns-in-Ok-text_of : goal.returns-in-Ok-text_of
 returns-in-Ok-text_of c =
     let flat = c.in-Ok.ensures.ok.1 in (
