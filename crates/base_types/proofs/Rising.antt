@@ -1,4 +1,4 @@
--- `rising` is the one list in strict order with the elements of a list, and what a sort and `dedup` leave.
+-- `sorted_set` is the one list in strict order with the elements of a list, and what a sort and `dedup` leave.
 use Rattle.std.proofs.Common.{◌≡◌, ℕ, List, [], ◌∷◌, refl, sym, ap, ◌∙◌, subst, ⊎_elim, Ordering, Bool, true, false}
 use Rattle.std.specs.Prelude.{Contains}
 use Rattle.std.specs.Str.{bytes_eq}
@@ -77,17 +77,20 @@ put_once-same t (u ∷ us) =
     again : t ≡ u → SameElements (u ∷ us) (t ∷ (u ∷ us))
     again e x = (λ c. Contains-there t (u ∷ us) x c, λ c. ⊎_elim (λ f. subst (Contains (u ∷ us)) (sym e ∙ f) (Contains-here u us)) (λ d. d) (Contains-cons_cases t (u ∷ us) x c))
 
--- ---- `rising`
+-- ---- `sorted_set`
 
+-- the texts are in strict order
 pub rising-rises : (ts : List (List ℕ)) → IsStrictlySortedBy text_cmp (sorted_set ts)
 unfolding IsStrictlySortedBy
 rising-rises [] = tt
 rising-rises (t ∷ ts) = put_once-rises t (sorted_set ts) (rising-rises ts)
 
+-- they are the texts of the list
 pub rising-same : (ts : List (List ℕ)) → SameElements (sorted_set ts) ts
 rising-same [] = SameElements-refl []
 rising-same (t ∷ ts) = SameElements-trans (put_once t (sorted_set ts)) (t ∷ sorted_set ts) (t ∷ ts) (put_once-same t (sorted_set ts)) (SameElements-cons t (sorted_set ts) ts (rising-same ts))
 
+-- and no other list in strict order has them
 pub rising-only : (ts us : List (List ℕ)) → IsStrictlySortedBy text_cmp us → SameElements us ts → us ≡ sorted_set ts
 rising-only ts us up same = strictly_sorted-unique nat_list_cmp_total us (sorted_set ts) up (rising-rises ts) (SameElements-trans us ts (sorted_set ts) same (SameElements-sym (sorted_set ts) ts (rising-same ts)))
 
@@ -109,6 +112,7 @@ SameElements-dedup {X} {R} o exact {E} ties xs ys moved x = (
     equal_if Equal e = refl
     equal_if Greater e = absurd (cc)
 
+-- a sort and then `dedup` leave it
 pub rising-dedup : (ts us : List (List ℕ)) → IsPermutation ts us → IsSorted text_cmp us → dedup bytes_eq us ≡ sorted_set ts
 rising-dedup ts us moved up =
     rising-only ts (dedup bytes_eq us) (IsStrictlySortedBy-dedup nat_list_cmp_total bytes_eq-cmp us up) (SameElements-dedup nat_list_cmp_total exact_bytes bytes_eq-cmp ts us moved)

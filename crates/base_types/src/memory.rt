@@ -1,6 +1,8 @@
+//! Out of memory, the one free answer.
+
 use std::alloc::{AllocError, AllocFailed};
 
-/// Want of memory. It is the one free answer: no clause ties it to a cause, and it is merged with no
+/// Out of memory. It is the one free answer: no clause ties it to a cause, and it is merged with no
 /// other fault.
 #[derive(Clone, Copy, Debug, PartialEq, Eq)]
 pub struct Memory;

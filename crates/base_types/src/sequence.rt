@@ -1,5 +1,7 @@
+//! A `Vec` that contracts see as the list of its elements.
+
 ghost use Rattle.std.specs.Prelude.{◌≡◌, ◌↔◌, [], ◌∷◌, ◌++◌, length, slice_get, IsTrue, OnOk, OnErr};
-ghost use Rattle.std.specs.Option.{option_copied};
+ghost use Rattle.std.specs.Option.{option_copied, MatchOption};
 
 use crate::memory::Memory;
 use std::alloc::Global;
@@ -80,5 +82,13 @@ impl<T: Drop> Sequence<T> {
     {
         self.elements.push(element)?;
         Ok(())
+    }
+
+    /// Takes the last element, where there is one.
+    pub fn pop(&mut self) -> Option<T>
+        ensures { MatchOption result ((self.old ≡ []) × (self.new ≡ []))
+            (λ last. self.old ≡ self.new ++ last ∷ []) }
+    {
+        self.elements.pop()
     }
 }

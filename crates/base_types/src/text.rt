@@ -1,3 +1,5 @@
+//! Text that contracts see as its bytes.
+
 ghost use Rattle.std.specs.Prelude.{◌≡◌, [], ◌++◌, string_bytes, encode_utf8, length, IfOk, OnOk, OnErr};
 ghost use Rattle.std.specs.Str.{IsUtf8};
 
