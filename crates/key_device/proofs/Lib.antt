@@ -1,2 +1,3 @@
+pub mod NewLedgers
 pub mod Owning
 pub mod Recording

@@ -1,4 +1,4 @@
--- What a ledger's record says after one more entry, and after one more key.
+-- What a ledger's log says after one more entry, and after one more key.
 use Rattle.std.proofs.Common.{◌≡◌, ◌⊎◌, inl, inr, ◌∙◌, ◌+◌, ◌<◌, ◌^◌, length, get_or, Contains, sym, ℕ, Bool, true, false, ◌||◌, List, [], ◌∷◌, ◌++◌, refl, ap, arith, below_more, length-append}
 use Rattle.std.proofs.Math.ListN.{get_or-append}
 use Rattle.std.proofs.Math.Seq.{get_or-append_seam}
@@ -12,7 +12,8 @@ use Rattle.key_device.specs.Devices.{log_entry}
 use Rattle.key_device.specs.Exact.{is_entry-itself, found_entry}
 use Rattle.key_device.proofs.Owning.{not_true}
 use Rattle.std.proofs.lemmas.Nat.{from_be_bytes-to_be_bytes_8}
-use Rattle.key_device.specs.Ledgers.{has_key, has_entry, signed_under, is_entry, IsNumbered, numbered_signature, signature_number}
+use Rattle.key_device.specs.Ledgers.{has_key, has_entry, has_keys_of, is_entry, IsNumbered, numbered_signature}
+use Rattle.key_device.specs.Internal.Numbers.{signature_number}
 
 or_true : (b : Bool) → (b || true) ≡ true
 or_true true = refl
@@ -22,14 +23,14 @@ number_back : (n : ℕ) → n < 2 ^ 64 → signature_number (numbered_signature 
 unfolding numbered_signature signature_number
 number_back n small = from_be_bytes-to_be_bytes_8 n small
 
--- a signature under an owned key keeps each key of the record owned
-pub signed_under-more : (keys : List KeyName) (entries : List SignedEntry) (e : SignedEntry) → signed_under keys entries ≡ true → has_key keys e.key ≡ true → signed_under keys (entries ++ e ∷ []) ≡ true
-signed_under-more keys entries e all one = rw (list_all-append (λ x. has_key keys x.key) entries (e ∷ []), all, one) refl
+-- a signature under an owned key keeps each key of the log owned
+pub has_keys_of-more : (keys : List KeyName) (entries : List SignedEntry) (e : SignedEntry) → has_keys_of keys entries ≡ true → has_key keys e.key ≡ true → has_keys_of keys (entries ++ e ∷ []) ≡ true
+has_keys_of-more keys entries e all one = rw (list_all-append (λ x. has_key keys x.key) entries (e ∷ []), all, one) refl
 
--- more keys keep each key of the record owned
-pub signed_under-still : (old new : List KeyName) (entries : List SignedEntry) → ((key : KeyName) → has_key old key ≡ true → has_key new key ≡ true) → signed_under old entries ≡ true → signed_under new entries ≡ true
-signed_under-still old new [] more all = refl
-signed_under-still old new (e ∷ es) more all = grind (arith, common_steps, more e.key, signed_under-still old new es more)
+-- more keys keep each key of the log owned
+pub has_keys_of-still : (old new : List KeyName) (entries : List SignedEntry) → ((key : KeyName) → has_key old key ≡ true → has_key new key ≡ true) → has_keys_of old entries ≡ true → has_keys_of new entries ≡ true
+has_keys_of-still old new [] more all = refl
+has_keys_of-still old new (e ∷ es) more all = grind (arith, common_steps, more e.key, has_keys_of-still old new es more)
 
 -- what was signed last is accepted
 pub has_entry-last : (entries : List SignedEntry) (key : KeyName) (bytes : List ℕ) (signature : Signature) → has_entry (entries ++ log_entry key bytes signature ∷ []) key bytes signature ≡ true
@@ -39,7 +40,7 @@ has_entry-last entries key bytes signature = rw (list_any-append (is_entry key b
 pub has_entry-still : (entries : List SignedEntry) (e : SignedEntry) (key : KeyName) (bytes : List ℕ) (signature : Signature) → has_entry entries key bytes signature ≡ true → has_entry (entries ++ e ∷ []) key bytes signature ≡ true
 has_entry-still entries e key bytes signature p = rw (list_any-append (is_entry key bytes signature) entries (e ∷ []), p) refl
 
--- where the entries are numbered, the number of a signature in the record says where it stands
+-- where the entries are numbered, the number of a signature in the log says where it stands
 where_recorded : (entries : List SignedEntry) (key : KeyName) (bytes : List ℕ) (signature : Signature) → IsNumbered entries → length entries < 2 ^ 64 → has_entry entries key bytes signature ≡ true
     → (i : ℕ) × (i < length entries) × (signature_number signature ≡ i + 1) × (get_or entries i (log_entry key bytes signature) ≡ log_entry key bytes signature)
 where_recorded entries key bytes signature order small p =
@@ -51,7 +52,7 @@ outside : {n m : ℕ} {Q : ℕ → Type 0} → (n ≡ 0) ⊎ (m < n) → (i : �
 outside (inl zero) w = omega (arith, w.2)
 outside (inr past) w = omega (arith, w.1, w.2)
 
--- a signature without a number of the record stands in no entry
+-- a signature without a number of the log stands in no entry
 pub not_recorded : (entries : List SignedEntry) (key : KeyName) (bytes : List ℕ) (signature : Signature) → IsNumbered entries → length entries < 2 ^ 64
     → (signature_number signature ≡ 0) ⊎ (length entries < signature_number signature) → has_entry entries key bytes signature ≡ false
 not_recorded entries key bytes signature order small out =
@@ -78,4 +79,4 @@ IsNumbered-more entries e order next = λ i d lt.
     (rw (get_or-append_seam entries e [] d) next)
     i (omega (arith, length-append entries (e ∷ [])))
 
-pub ruleset recording = (signed_under-more, signed_under-still, has_entry-last, has_entry-still, IsNumbered-more)
+pub ruleset recording = (has_keys_of-more, has_keys_of-still, has_entry-last, has_entry-still, IsNumbered-more)

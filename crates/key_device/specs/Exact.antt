@@ -1,7 +1,9 @@
--- That a ledger means its record: a lemma that the law of its device cites.
-use Rattle.std.specs.Prelude.{◌≡◌, ℕ, Bool, true, false, ◌&&◌, List, Contains, Some}
+-- That a ledger means its log. These are lemmas, of which nothing need be believed; they stand here
+-- since a law of a trait cites `specs` alone.
+use Rattle.std.specs.Prelude.{◌≡◌, ℕ, true, List, Contains}
 use Rattle.std.specs.Str.{bytes_eq}
 use Rattle.std.proofs.Common.{ap, refl, ◌∙◌}
+use Rattle.std.proofs.lemmas.Bool.{and_from, and_parts}
 use Rattle.std.proofs.lemmas.List.Elements.{All-get_or}
 use Rattle.std.proofs.lemmas.List.Folds.{list_any_at}
 use Rattle.std.proofs.lemmas.List.Sums.{AllPass-from_list_all}
@@ -10,23 +12,14 @@ use Rattle.std.proofs.lemmas.Slice.Eq.{bytes_eq-Decides}
 use Rattle.key_device.specs.declared.keys.KeyName.{KeyName}
 use Rattle.key_device.specs.declared.keys.Signature.{Signature}
 use Rattle.key_device.specs.declared.device.SignedEntry.{SignedEntry}
-use Rattle.key_device.specs.Devices.{MeansItsRecord, log_entry}
-use Rattle.key_device.specs.Ledgers.{has_key, has_entry, signed_under, is_entry}
+use Rattle.key_device.specs.Devices.{MeansItsLog, log_entry}
+use Rattle.key_device.specs.Ledgers.{Ledger, has_key, has_entry, is_entry, ledger_meaning}
 
 abbrev key_of : List ℕ → KeyName
 key_of bytes = record { bytes = bytes }
 
 abbrev signature_of : List ℕ → Signature
 signature_of bytes = record { bytes = bytes }
-
-both : (a b : Bool) → (a && b) ≡ true → (a ≡ true) × (b ≡ true)
-both true b p = (refl, p)
-both false true p = (p, refl)
-both false false p = (p, p)
-
-both_true : (a b : Bool) → a ≡ true → b ≡ true → (a && b) ≡ true
-both_true true b p q = q
-both_true false b p q = p
 
 same_parts : (x y : SignedEntry) → x.key ≡ y.key → x.bytes ≡ y.bytes → x.signature ≡ y.signature → x ≡ y
 same_parts x y p q r =
@@ -35,29 +28,31 @@ same_parts x y p q r =
 -- an entry that passes as x is x
 same_entry : (x y : SignedEntry) → is_entry x.key x.bytes x.signature y ≡ true → x ≡ y
 same_entry x y p =
-    let parts = both _ _ p in
-    let rest = both (bytes_eq x.bytes y.bytes) _ parts.1 in
+    let parts = and_parts _ _ p in
+    let rest = and_parts (bytes_eq x.bytes y.bytes) _ parts.1 in
     same_parts x y (ap key_of ((bytes_eq-Decides x.key.bytes y.key.bytes).0 parts.0)) ((bytes_eq-Decides x.bytes y.bytes).0 rest.0) (ap signature_of ((bytes_eq-Decides x.signature.bytes y.signature.bytes).0 rest.1))
 
 -- an entry passes as itself
 pub is_entry-itself : (key : KeyName) (bytes : List ℕ) (signature : Signature) → is_entry key bytes signature (log_entry key bytes signature) ≡ true
 is_entry-itself key bytes signature =
-    both_true _ _ ((bytes_eq-Decides key.bytes key.bytes).1 refl)
-    (both_true _ _ ((bytes_eq-Decides bytes bytes).1 refl) ((bytes_eq-Decides signature.bytes signature.bytes).1 refl))
+    and_from _ _ ((bytes_eq-Decides key.bytes key.bytes).1 refl)
+    (and_from _ _ ((bytes_eq-Decides bytes bytes).1 refl) ((bytes_eq-Decides signature.bytes signature.bytes).1 refl))
 
--- what is accepted stands in the record
+-- what is accepted stands in the log
 pub found_entry : (entries : List SignedEntry) (key : KeyName) (bytes : List ℕ) (signature : Signature) → has_entry entries key bytes signature ≡ true → Contains entries (log_entry key bytes signature)
 found_entry entries key bytes signature = Contains-from_any {eq = λ x y. is_entry x.key x.bytes x.signature y} same_entry (log_entry key bytes signature) entries
 
--- what stands in the record is accepted
+-- what stands in the log is accepted
 found : (entries : List SignedEntry) (key : KeyName) (bytes : List ℕ) (signature : Signature) → Contains entries (log_entry key bytes signature) → has_entry entries key bytes signature ≡ true
 found entries key bytes signature c =
     list_any_at (is_entry key bytes signature) entries c.0 (log_entry key bytes signature) c.1 (rw c.2 (is_entry-itself key bytes signature))
 
--- a ledger that owns the keys of its record accepts exactly what stands in it
-pub ledger_means : (keys : List KeyName) (entries : List SignedEntry) → signed_under keys entries ≡ true → MeansItsRecord (Some entries) (has_entry entries) (has_key keys)
-ledger_means keys entries all = (
-  λ key bytes signature.
-      (found_entry entries key bytes signature, found entries key bytes signature),
-  λ e c. rw (← c.2) (All-get_or (λ x. has_key keys x.key ≡ true) entries c.0 e c.1 (AllPass-from_list_all (λ x. has_key keys x.key) entries all)),
-)
+-- a ledger that owns the keys of its log accepts exactly what stands in it
+pub ledger_means_its_log : (d : Ledger) → (ledger_meaning d).exact ≡ true → MeansItsLog (ledger_meaning d)
+ledger_means_its_log d all = record {
+  entries = d.log;
+  told = refl;
+  accepted = λ key bytes signature.
+      (found_entry d.log key bytes signature, found d.log key bytes signature);
+  owned = λ e c. rw (← c.2) (All-get_or (λ x. has_key d.keys x.key ≡ true) d.log c.0 e c.1 (AllPass-from_list_all (λ x. has_key d.keys x.key) d.log all));
+}

@@ -1,4 +1,5 @@
 pub mod Devices
 pub mod Exact
+pub mod Internal
 pub mod Ledgers
 pub mod Tables

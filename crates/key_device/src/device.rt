@@ -1,8 +1,8 @@
-ghost use Rattle.std.specs.Prelude.{◌≡◌, ◌≤◌, ℕ, List, Bool, true, false, Option, IfOk, OnOk, OnErr, IsErrOf};
-ghost use Rattle.key_device.specs.declared.device.SignedEntry.{SignedEntry};
+//! The trait of key devices: what signs under secret keys and checks signatures, with its laws.
+
+ghost use Rattle.std.specs.Prelude.{◌≡◌, ◌≤◌, true, false, IfOk, OnOk, OnErr, IsErrOf};
 ghost use Rattle.key_device.specs.declared.device.DeviceError.TheVariants.{Failed, NoKey};
-ghost use Rattle.base_types.specs.Counts.{HasRisen};
-ghost use Rattle.key_device.specs.Devices.{Acceptance, Ownership, AcceptsSame, StillAccepts, OwnsSame, StillOwns, GrewBy, IsSecretTold, MeansItsRecord, log_entry};
+ghost use Rattle.key_device.specs.Devices.{DeviceMeaning, CountsFault, MeansSame, AcceptsSame, StillAccepts, OwnsSame, StillOwns, GrewBy, IsSecretTold, MeansItsLog, log_entry};
 
 use crate::keys::{KeyName, Signature};
 use base_types::{Memory, Sequence};
@@ -23,7 +23,7 @@ pub enum DeviceError {
     Failed,
     /// The device does not own the key under which it was to sign.
     NoKey,
-    /// Want of memory.
+    /// Out of memory.
     Memory,
 }
 
@@ -57,42 +57,27 @@ impl<T: Drop> From<AllocFailed<T>> for DeviceError {
     }
 }
 
-/// A device that holds secret keys. Its ghost members say what it means to a caller; the laws of that
-/// meaning are the clauses of the four calls and the law below them.
+/// A device that holds secret keys. Its ghost member says what it means to a caller; the laws of
+/// that meaning are the clauses of the four calls and the law below them.
 ///
 /// No call withdraws acceptance or ownership, and a call that is refused signs nothing.
 pub trait KeyDevice {
-    /// Which signatures it accepts, on which bytes, under which key.
-    ghost accepts: { Self → Acceptance };
-
-    /// Which keys it owns.
-    ghost owns: { Self → Ownership };
-
-    /// Its record: what it signed, in order, where it tells that.
-    ghost signed: { Self → Option (List SignedEntry) };
-
-    /// The secret that `fresh_secret` gives next, where it tells that.
-    ghost next_secret: { Self → Option (List ℕ) };
-
-    /// How many faults it counted.
-    ghost faults: { Self → ℕ };
-
-    /// Whether it is exact: what it accepts is what it recorded, and its fresh keys are new.
-    ghost exact: { Self → Bool };
+    /// What it means at this moment: acceptance, ownership, its log, its next secret, its faults.
+    ghost means: { Self → DeviceMeaning };
 
     /// Signs `bytes` under `key`. `NoKey` comes only where the device does not own the key.
     fn sign(&mut self, key: &KeyName, bytes: &[u8]) -> Result<Signature, DeviceError>
-        ensures was_owned { OnOk result (owns self.old key.now ≡ true) }
-        ensures no_key { IsErrOf result NoKey → owns self.old key.now ≡ false }
-        ensures accepted { IfOk result (λ signature. accepts self.new key.now bytes.now signature ≡ true) }
-        ensures recorded { IfOk result (λ signature. GrewBy (log_entry key.now bytes.now signature) (signed self.old) (signed self.new)) }
-        ensures still_accepts { StillAccepts (accepts self.old) (accepts self.new) }
-        ensures refused_accepts { OnErr result (AcceptsSame (accepts self.old) (accepts self.new)) }
-        ensures refused_signs { OnErr result (signed self.new ≡ signed self.old) }
-        ensures ownership { OwnsSame (owns self.old) (owns self.new) }
-        ensures exactness { exact self.new ≡ exact self.old }
-        ensures counted { faults self.old ≤ faults self.new }
-        ensures failed { IsErrOf result Failed → HasRisen (faults self.old) (faults self.new) };
+        ensures was_owned { OnOk result ((means self.old).owns key.now ≡ true) }
+        ensures no_key { IsErrOf result NoKey → (means self.old).owns key.now ≡ false }
+        ensures accepted { IfOk result (λ s. (means self.new).accepts key.now bytes.now s ≡ true) }
+        ensures logged { IfOk result (λ s.
+            GrewBy (log_entry key.now bytes.now s) (means self.old) (means self.new)) }
+        ensures acceptance { StillAccepts (means self.old) (means self.new) }
+        ensures ownership { OwnsSame (means self.old) (means self.new) }
+        ensures exactness { (means self.new).exact ≡ (means self.old).exact }
+        ensures refused { OnErr result (MeansSame (means self.old) (means self.new)) }
+        ensures counted { (means self.old).faults ≤ (means self.new).faults }
+        ensures failed { IsErrOf result Failed → CountsFault (means self.old) (means self.new) };
 
     /// Whether `signature` is accepted on `bytes` under `key`.
     fn check(
@@ -101,38 +86,35 @@ pub trait KeyDevice {
         bytes: &[u8],
         signature: &Signature,
     ) -> Result<bool, DeviceError>
-        ensures answer { IfOk result (λ yes. yes ≡ accepts self.old key.now bytes.now signature.now) }
+        ensures answer { IfOk result (λ yes.
+            yes ≡ (means self.old).accepts key.now bytes.now signature.now) }
         ensures no_key { IsErrOf result NoKey → ⊥ }
-        ensures acceptance { AcceptsSame (accepts self.old) (accepts self.new) }
-        ensures ownership { OwnsSame (owns self.old) (owns self.new) }
-        ensures record_stays { signed self.new ≡ signed self.old }
-        ensures exactness { exact self.new ≡ exact self.old }
-        ensures counted { faults self.old ≤ faults self.new }
-        ensures failed { IsErrOf result Failed → HasRisen (faults self.old) (faults self.new) };
+        ensures stays { MeansSame (means self.old) (means self.new) }
+        ensures counted { (means self.old).faults ≤ (means self.new).faults }
+        ensures failed { IsErrOf result Failed → CountsFault (means self.old) (means self.new) };
 
     /// A new key, which the device owns from then on. That of an exact device was not owned before.
     fn fresh_key(&mut self) -> Result<KeyName, DeviceError>
-        ensures owned { IfOk result (λ key. owns self.new key ≡ true) }
-        ensures new { exact self.old ≡ true → IfOk result (λ key. owns self.old key ≡ false) }
+        ensures owned { IfOk result (λ key. (means self.new).owns key ≡ true) }
+        ensures new { (means self.old).exact ≡ true
+            → IfOk result (λ key. (means self.old).owns key ≡ false) }
         ensures no_key { IsErrOf result NoKey → ⊥ }
-        ensures acceptance { AcceptsSame (accepts self.old) (accepts self.new) }
-        ensures still_owns { StillOwns (owns self.old) (owns self.new) }
-        ensures record_stays { signed self.new ≡ signed self.old }
-        ensures exactness { exact self.new ≡ exact self.old }
-        ensures counted { faults self.old ≤ faults self.new }
-        ensures failed { IsErrOf result Failed → HasRisen (faults self.old) (faults self.new) };
+        ensures acceptance { AcceptsSame (means self.old) (means self.new) }
+        ensures ownership { StillOwns (means self.old) (means self.new) }
+        ensures log { (means self.new).log ≡ (means self.old).log }
+        ensures exactness { (means self.new).exact ≡ (means self.old).exact }
+        ensures counted { (means self.old).faults ≤ (means self.new).faults }
+        ensures failed { IsErrOf result Failed → CountsFault (means self.old) (means self.new) };
 
     /// A new secret of 32 bytes: the one that the device told to come next, where it tells that.
     fn fresh_secret(&mut self) -> Result<[u8; 32], DeviceError>
-        ensures told { IfOk result (λ secret. IsSecretTold (next_secret self.old) secret) }
+        ensures told { IfOk result (λ secret. IsSecretTold (means self.old) secret) }
         ensures no_key { IsErrOf result NoKey → ⊥ }
-        ensures acceptance { AcceptsSame (accepts self.old) (accepts self.new) }
-        ensures ownership { OwnsSame (owns self.old) (owns self.new) }
-        ensures record_stays { signed self.new ≡ signed self.old }
-        ensures exactness { exact self.new ≡ exact self.old }
-        ensures counted { faults self.old ≤ faults self.new }
-        ensures failed { IsErrOf result Failed → HasRisen (faults self.old) (faults self.new) };
+        ensures stays { MeansSame (means self.old) (means self.new) }
+        ensures counted { (means self.old).faults ≤ (means self.new).faults }
+        ensures failed { IsErrOf result Failed → CountsFault (means self.old) (means self.new) };
 
-    /// An exact device tells its record, accepts exactly what stands in it, and owns each key in it.
-    ghost exact_means: { (device : Self) → exact device ≡ true → MeansItsRecord (signed device) (accepts device) (owns device) };
+    /// An exact device tells its log, accepts exactly what stands in it, and owns each key in it.
+    ghost exact_means: { (device : Self)
+        → (means device).exact ≡ true → MeansItsLog (means device) };
 }

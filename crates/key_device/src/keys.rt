@@ -1,7 +1,9 @@
+//! Names of keys, and signatures.
+
 ghost use Rattle.std.specs.Prelude.{◌≡◌, ◌≢◌, ◌↔◌, length, IfSome, IsNone};
 
 /// The name of a public key: the 35 bytes of its multikey form, two for its kind and 33 for the
-/// compressed point (Data Integrity ECDSA Cryptosuites, 2.1.1). The device knows the secret key to it.
+/// compressed point (Data Integrity ECDSA Cryptosuites, 2.1.1). The device knows the secret key.
 #[derive(Clone, Copy, Debug, PartialEq, Eq, PartialOrd, Ord)]
 pub struct KeyName {
     pub bytes: [u8; 35],

@@ -1,10 +1,13 @@
+//! The exact device: it accepts just what it signed, and numbers its signatures, keys and secrets.
+
 ghost use Rattle.std.specs.Prelude.{◌≡◌, ◌+◌, ℕ, [], ◌∷◌, ◌++◌, ◌||◌, length, true, false, Ok, Err, IfOk, OnOk, OnErr, IsErrOf};
 ghost use Rattle.std.specs.Str.{bytes_eq};
+ghost use Rattle.base_types.specs.Counts.{one_more};
 ghost use Rattle.key_device.specs.declared.device.DeviceError.TheVariants as error;
 ghost use Rattle.key_device.specs.declared.keys.KeyName.{KeyName};
-ghost use Rattle.key_device.specs.Devices.{StillAccepts, OwnsSame, StillOwns, log_entry};
-ghost use Rattle.base_types.specs.Counts.{one_more};
-ghost use Rattle.key_device.specs.Ledgers.{has_key, has_entry, numbered_signature, numbered_key, numbered_secret, signed_under, signature_number, is_entry, IsNumbered, IsNextFree};
+ghost use Rattle.key_device.specs.Devices.{StillAccepts, StillOwns, MeansSame, log_entry};
+ghost use Rattle.key_device.specs.Ledgers.{has_key, has_entry, has_keys_of, ledger_meaning, numbered_signature, numbered_key, numbered_secret, is_entry, IsNumbered, IsNextFree};
+ghost use Rattle.key_device.specs.Internal.Numbers.{signature_number};
 
 use crate::device::{DeviceError, KeyDevice, SignedEntry};
 use crate::keys::{KeyName, Signature};
@@ -13,13 +16,13 @@ use std::alloc::Global;
 use std::collections::BTreeSet;
 use std::marker::Model;
 
-/// The exact device: it accepts just what it signed, and never fails. Its signatures, fresh keys and
-/// secrets are numbered, so they can be told beforehand and keep nothing secret.
+/// The exact device: it accepts just what it signed, and never fails. Its signatures, fresh keys
+/// and secrets are numbered, so they can be told beforehand and keep nothing secret.
 #[derive(Drop)]
 pub struct LedgerDevice {
     alloc: Global,
-    owned: BTreeSet<KeyName>,
-    entries: Vec<SignedEntry>,
+    keys: BTreeSet<KeyName>,
+    log: Vec<SignedEntry>,
     secrets: u64,
 }
 
@@ -28,29 +31,37 @@ impl Model for LedgerDevice {
 
     ghost Value = { Ledger };
 
-    ghost view = { λ d. record { owned = d.owned.keys; signed = d.entries.items; secrets = d.secrets } };
+    ghost view = { λ d. record { keys = d.keys.keys; log = d.log.items; secrets = d.secrets } };
 
-    ghost invariant = { λ d. IsKept d.owned.keys d.entries.items };
+    ghost invariant = { λ d. IsKept d.keys.keys d.log.items };
 }
 
 impl LedgerDevice {
-    /// A ledger that owns exactly the keys in `owned`, signed nothing and gave no secret.
-    pub fn new(alloc: Global, owned: &[KeyName]) -> Result<LedgerDevice, Memory>
-        ensures owned { IfOk result (λ d. OwnsSame (has_key owned.now) (has_key d.owned)) }
-        ensures signed { IfOk result (λ d. d.signed ≡ []) }
+    /// A ledger that owns exactly these keys, signed nothing and gave no secret.
+    pub fn new(alloc: Global, keys: &[KeyName]) -> Result<LedgerDevice, Memory>
+        ensures keys { IfOk result (λ d.
+            (key : KeyName) → has_key d.keys key ≡ has_key keys.now key) }
+        ensures log { IfOk result (λ d. d.log ≡ []) }
         ensures secrets { IfOk result (λ d. d.secrets ≡ 0) }
-        ensures exact { IfOk result (λ d. signed_under d.owned d.signed ≡ true) }
+        ensures exact { IfOk result (λ d. (ledger_meaning d).exact ≡ true) }
     {
-        let mut names = BTreeSet::new(alloc);
-        for name in owned {
-            add_key(&mut names, *name)?;
+        let mut owned = BTreeSet::new(alloc);
+        for name in keys {
+            add_key(&mut owned, *name)?;
         }
         Ok(LedgerDevice {
             alloc,
-            owned: names,
-            entries: Vec::new(alloc),
+            keys: owned,
+            log: Vec::new(alloc),
             secrets: 0,
         })
+    }
+
+    /// What it signed, in order.
+    pub fn log(&self) -> &[SignedEntry]
+        ensures { result.now ≡ self.now.log }
+    {
+        self.log.as_slice()
     }
 }
 
@@ -94,7 +105,9 @@ fn has_key(owned: &BTreeSet<KeyName>, key: &KeyName) -> bool
 
 /// Adds `key`, if it is not there.
 fn add_key(owned: &mut BTreeSet<KeyName>, key: KeyName) -> Result<(), Memory>
-    ensures ok { OnOk result ((other : _) → has_key owned.new.keys other ≡ (bytes_eq other.bytes key.bytes || has_key owned.old.keys other)) }
+    ensures ok { OnOk result ((other : _)
+        → has_key owned.new.keys other
+        ≡ (bytes_eq other.bytes key.bytes || has_key owned.old.keys other)) }
     ensures err { OnErr result (owned.new.keys ≡ owned.old.keys) }
 {
     drop(owned.insert(key)?);
@@ -102,7 +115,7 @@ fn add_key(owned: &mut BTreeSet<KeyName>, key: KeyName) -> Result<(), Memory>
 }
 
 /// The number that a numbered signature ends with.
-#[tactic(auto, unfolding(crate::specs::Ledgers::signature_number))]
+#[tactic(auto, unfolding(crate::specs::Internal::Numbers::signature_number))]
 fn signature_number(signature: &Signature) -> u64
     ensures { result ≡ signature_number signature.now }
 {
@@ -111,8 +124,8 @@ fn signature_number(signature: &Signature) -> u64
     u64::from_be_bytes(number)
 }
 
-/// Whether this key, these bytes and this signature stand together in an entry. Only the entry with the
-/// number of the signature can be the one, so no other is looked at.
+/// Whether this key, these bytes and this signature stand together in an entry. Only the entry with
+/// the number of the signature can be the one, so no other is looked at.
 fn is_recorded(entries: &[SignedEntry], key: &KeyName, bytes: &[u8], signature: &Signature) -> bool
     requires { IsNumbered entries.now }
     ensures { result ≡ has_entry entries.now key.now bytes.now signature.now }
@@ -132,8 +145,8 @@ fn is_entry(entry: &SignedEntry, key: &KeyName, bytes: &[u8], signature: &Signat
     *key == entry.key && bytes == entry.bytes.as_slice() && *signature == entry.signature
 }
 
-/// The key with the least number from 1 that is not owned. Of the numbers from 1 to one more than the
-/// count of owned keys one is free.
+/// The key with the least number from 1 that is not owned. Of the numbers from 1 to one more than
+/// the count of owned keys one is free.
 fn next_free(owned: &BTreeSet<KeyName>) -> KeyName
     ensures { (n : ℕ) × IsNextFree (has_key owned.now.keys) n × (result ≡ numbered_key n) }
 {
@@ -147,43 +160,34 @@ fn next_free(owned: &BTreeSet<KeyName>) -> KeyName
 }
 
 impl KeyDevice for LedgerDevice {
-    ghost use Rattle.std.specs.Prelude.{Some};
     ghost use Rattle.base_types.specs.Counts.{one_more};
-    ghost use Rattle.key_device.specs.Ledgers.{has_key, has_entry, signed_under, numbered_secret};
-    ghost use Rattle.key_device.specs.Exact.{ledger_means};
+    ghost use Rattle.key_device.specs.Ledgers.{ledger_meaning, numbered_secret};
+    ghost use Rattle.key_device.specs.Exact.{ledger_means_its_log};
 
-    ghost accepts = { λ d. has_entry d.signed };
+    ghost means = { ledger_meaning };
 
-    ghost owns = { λ d. has_key d.owned };
-
-    ghost signed = { λ d. Some d.signed };
-
-    ghost next_secret = { λ d. Some (numbered_secret (one_more d.secrets)) };
-
-    ghost faults = { λ d. 0 };
-
-    ghost exact = { λ d. signed_under d.owned d.signed };
-
-    ghost exact_means = { λ d all. ledger_means d.owned d.signed all };
+    ghost exact_means = { ledger_means_its_log };
 
     #[tactic(auto, using(crate::proofs::Recording::recording))]
     fn sign(&mut self, key: &KeyName, bytes: &[u8]) -> Result<Signature, DeviceError>
-        ensures signature { IfOk result (λ signature. signature ≡ numbered_signature (length self.old.signed + 1)) }
-        ensures signs { IfOk result (λ signature. self.new ≡ record self.old { signed = self.old.signed ++ log_entry key.now bytes.now signature ∷ [] }) }
-        ensures not_owned { has_key self.old.owned key.now ≡ false → result ≡ Err error.NoKey }
-        ensures no_key { IsErrOf result error.NoKey → has_key self.old.owned key.now ≡ false }
+        ensures signature { IfOk result (λ s. s ≡ numbered_signature (length self.old.log + 1)) }
+        ensures signs { IfOk result (λ s. self.new ≡ record self.old {
+          log = self.old.log ++ log_entry key.now bytes.now s ∷ [];
+        }) }
+        ensures not_owned { has_key self.old.keys key.now ≡ false → result ≡ Err error.NoKey }
+        ensures no_key { IsErrOf result error.NoKey → has_key self.old.keys key.now ≡ false }
         ensures never_fails { IsErrOf result error.Failed → ⊥ }
-        ensures refused { OnErr result (self.new ≡ self.old) }
-        ensures accepted { IfOk result (λ signature. has_entry self.new.signed key.now bytes.now signature ≡ true) }
-        ensures still_accepts { StillAccepts (has_entry self.old.signed) (has_entry self.new.signed) }
-        ensures exactness { signed_under self.new.owned self.new.signed ≡ signed_under self.old.owned self.old.signed }
+        ensures unchanged { OnErr result (self.new ≡ self.old) }
+        ensures accepted { IfOk result (λ s. has_entry self.new.log key.now bytes.now s ≡ true) }
+        ensures acceptance { StillAccepts (ledger_meaning self.old) (ledger_meaning self.new) }
+        ensures exactness { (ledger_meaning self.new).exact ≡ (ledger_meaning self.old).exact }
     {
-        if !has_key(&self.owned, key) {
+        if !has_key(&self.keys, key) {
             return Err(DeviceError::NoKey);
         }
-        let signature = numbered_signature(self.entries.len() as u64 + 1);
+        let signature = numbered_signature(self.log.len() as u64 + 1);
         let bytes = Sequence::from_vec(bytes.to_vec(self.alloc)?);
-        self.entries.push(SignedEntry {
+        self.log.push(SignedEntry {
             key: *key,
             bytes,
             signature,
@@ -197,26 +201,29 @@ impl KeyDevice for LedgerDevice {
         bytes: &[u8],
         signature: &Signature,
     ) -> Result<bool, DeviceError>
-        ensures says { result ≡ Ok (has_entry self.old.signed key.now bytes.now signature.now) }
-        ensures stays { self.new ≡ self.old }
+        ensures says { result ≡ Ok (has_entry self.old.log key.now bytes.now signature.now) }
+        ensures unchanged { self.new ≡ self.old }
     {
-        Ok(is_recorded(&self.entries, key, bytes, signature))
+        Ok(is_recorded(&self.log, key, bytes, signature))
     }
 
     #[tactic(auto, using(crate::proofs::Recording::recording))]
     fn fresh_key(&mut self) -> Result<KeyName, DeviceError>
-        ensures least { IfOk result (λ key. (n : ℕ) × IsNextFree (has_key self.old.owned) n × (key ≡ numbered_key n)) }
-        ensures new { IfOk result (λ key. has_key self.old.owned key ≡ false) }
-        ensures owned { IfOk result (λ key. has_key self.new.owned key ≡ true) }
-        ensures adds { IfOk result (λ key. (other : KeyName) → has_key self.new.owned other ≡ (bytes_eq other.bytes key.bytes || has_key self.old.owned other)) }
-        ensures stays { (self.new.signed ≡ self.old.signed) × (self.new.secrets ≡ self.old.secrets) }
+        ensures least { IfOk result (λ key.
+            (n : ℕ) × IsNextFree (has_key self.old.keys) n × (key ≡ numbered_key n)) }
+        ensures new { IfOk result (λ key. has_key self.old.keys key ≡ false) }
+        ensures owned { IfOk result (λ key. has_key self.new.keys key ≡ true) }
+        ensures adds { IfOk result (λ key. (other : KeyName)
+            → has_key self.new.keys other
+            ≡ (bytes_eq other.bytes key.bytes || has_key self.old.keys other)) }
+        ensures log_stays { (self.new.log ≡ self.old.log) × (self.new.secrets ≡ self.old.secrets) }
         ensures not_refused { OnErr result (result ≡ Err error.Memory) }
-        ensures refused { OnErr result (self.new ≡ self.old) }
-        ensures still_owns { StillOwns (has_key self.old.owned) (has_key self.new.owned) }
-        ensures exactness { signed_under self.new.owned self.new.signed ≡ signed_under self.old.owned self.old.signed }
+        ensures unchanged { OnErr result (self.new ≡ self.old) }
+        ensures ownership { StillOwns (ledger_meaning self.old) (ledger_meaning self.new) }
+        ensures exactness { (ledger_meaning self.new).exact ≡ (ledger_meaning self.old).exact }
     {
-        let key = next_free(&self.owned);
-        add_key(&mut self.owned, key)?;
+        let key = next_free(&self.keys);
+        add_key(&mut self.keys, key)?;
         Ok(key)
     }
 

@@ -1,9 +1,10 @@
 //! The key device: whatever holds secret keys, signs under them and checks signatures.
 //!
-//! The rest of the program asks for signatures through the trait `KeyDevice` alone, so what it promises
-//! rests on that trait's laws and on no scheme of signatures. `LedgerDevice` is the exact device: it
-//! accepts just what it signed, and its keys, signatures and secrets can be told beforehand. `KeyTable`
-//! says which key a verification method of a Data Integrity proof stands for (VC Data Integrity, 2.1).
+//! The rest of the program asks for signatures through the trait `KeyDevice` alone, so what it
+//! promises rests on that trait's laws and on no scheme of signatures. `LedgerDevice` is the exact
+//! device: it accepts just what it signed, and its keys, signatures and secrets can be told
+//! beforehand. `KeyTable` says which key a verification method of a Data Integrity proof stands for
+//! (VC Data Integrity, 2.1).
 #![tactic(auto)]
 
 mod device;
@@ -19,4 +20,6 @@ pub use device::{DeviceError, KeyDevice, SignedEntry};
 pub use keys::{KeyName, Signature};
 pub use ledger::LedgerDevice;
 pub use table::{KeyEntry, KeyTable};
-pub use uses::{sign_and_check, sign_for_record, sign_with_fresh_key};
+pub use uses::{
+    sign_among_others, sign_and_check, sign_for_log, sign_with_fresh_key, sign_with_new_ledger,
+};

@@ -1,3 +1,5 @@
+//! The table of verification methods and their keys (VC Data Integrity, 2.1).
+
 ghost use Rattle.std.specs.Prelude.{◌≡◌};
 ghost use Rattle.key_device.specs.Tables.{key_for};
 

@@ -1,3 +1,5 @@
+//! What the calls give: signatures, keys and secrets by their numbers, and who is refused.
+
 use super::*;
 use std::test::Fail;
 
@@ -28,9 +30,21 @@ fn secret(last: u8) -> [u8; 32] {
 fn signs_and_checks(rt: HostRuntime) -> Result<(), Fail> {
     let mut ledger = LedgerDevice::new(rt.alloc(), &[key(0, 0), key(0, 7)])?;
     assert_eq!(rt; ledger.sign(&key(0, 1), b"ab"), Err(DeviceError::NoKey));
-    assert_eq!(rt; ledger.sign(&key(0, 0), b"ab"), Ok(signature(0, 1)));
-    assert_eq!(rt; ledger.sign(&key(0, 7), b""), Ok(signature(0, 2)));
-    assert_eq!(rt; ledger.sign(&key(0, 7), b"ab"), Ok(signature(0, 3)));
+    let made: [(KeyName, &[u8], Signature); 3] = [
+        (key(0, 0), b"ab", signature(0, 1)),
+        (key(0, 7), b"", signature(0, 2)),
+        (key(0, 7), b"ab", signature(0, 3)),
+    ];
+    for (name, bytes, mark) in made {
+        assert_eq!(rt; ledger.sign(&name, bytes), Ok(mark));
+    }
+    // the log is in the order of signing
+    assert_eq!(rt; ledger.log().len(), 3);
+    for (at, (name, bytes, mark)) in made.into_iter().enumerate() {
+        assert_eq!(rt; ledger.log()[at].key, name);
+        assert_eq!(rt; ledger.log()[at].bytes.as_slice(), bytes);
+        assert_eq!(rt; ledger.log()[at].signature, mark);
+    }
     let cases: [(KeyName, &[u8], Signature, bool); 11] = [
         (key(0, 0), b"ab", signature(0, 1), true),
         (key(0, 7), b"", signature(0, 2), true),
@@ -78,9 +92,10 @@ fn through_the_bound<D: KeyDevice>(
     name: &KeyName,
 ) -> Result<(bool, Signature, KeyName, Signature), DeviceError> {
     let yes = sign_and_check(device, name, b"ab")?;
-    let second = sign_for_record(device, name, b"ab")?;
+    let second = sign_for_log(device, name, b"ab")?;
     let (fresh, third) = sign_with_fresh_key(device, b"cd")?;
-    Ok((yes, second, fresh, third))
+    let still = sign_among_others(device, name, b"ef", b"gh")?;
+    Ok((yes && still, second, fresh, third))
 }
 
 #[test]
@@ -94,6 +109,15 @@ fn any_device(rt: HostRuntime) -> Result<(), Fail> {
         through_the_bound(&mut ledger, &key(0, 9)),
         Err(DeviceError::NoKey)
     );
+    for (name, answer) in [
+        (key(0, 0), Ok(signature(0, 1))),
+        (key(0, 9), Err(DeviceError::NoKey)),
+    ] {
+        assert_eq!(rt;
+            sign_with_new_ledger(rt.alloc(), &[key(0, 0)], &name, b"ab"),
+            answer
+        );
+    }
     Ok(())
 }
 
