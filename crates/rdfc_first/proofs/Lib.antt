@@ -1,4 +1,4 @@
-pub mod FilterLemmas
-pub mod GroupLemmas
-pub mod MarkLemmas
-pub mod HashLemmas
+pub mod Filters
+pub mod Runs
+pub mod MentionLines
+pub mod FirstHashes

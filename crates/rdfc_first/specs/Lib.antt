@@ -1,2 +1,1 @@
-pub mod Marking
-pub mod Grouping
+pub mod Internal

@@ -1,3 +1,5 @@
+//! First-degree hashes, from the sorted lines of all mentions (RDF Dataset Canonicalization, 4.6.3).
+
 ghost use Rattle.std.specs.Prelude.{◌≡◌, List, map, IfOk};
 ghost use Rattle.std.specs.List.{concat};
 ghost use Rattle.std.specs.List.Sorted.{IsStrictlySortedBy};
@@ -7,9 +9,9 @@ ghost use Rattle.digest_mac.specs.Digests.{sha256_digits};
 ghost use Rattle.nquads.specs.Terms.{Statement};
 ghost use Rattle.nquads.specs.Spelling.{text_quad};
 ghost use Rattle.nquads.specs.FirstDegree.{AreFirstHashes, blank_hash};
-ghost use Rattle.rdfc_first.specs.Grouping.{InBlankOrder, hashed, run_of};
+ghost use Rattle.rdfc_first.specs.Internal.Grouping.{InBlankOrder, hashes_in, run_of};
 
-use crate::seen::{MarkedLine, seen_lines};
+use crate::mentions::{MentionLine, mention_lines};
 use base_types::{Memory, Text};
 use digest_mac::sha256_hex;
 use nquads::{BlankHash, TextQuads};
@@ -24,18 +26,19 @@ use std::alloc::Global;
 pub fn first_hashes(alloc: Global, quads: &TextQuads) -> Result<Vec<BlankHash>, Memory>
     ensures exact { (q : List Statement) → quads.now ≡ map text_quad q
         → IfOk result (λ hashes. AreFirstHashes sha256_digits q hashes.items) }
-    ensures order { IfOk result (λ hashes. IsStrictlySortedBy (slice_cmp nat_cmp) (map (λ h. h.blank) hashes.items)) }
+    ensures order { IfOk result (λ hashes.
+        IsStrictlySortedBy (slice_cmp nat_cmp) (map (λ h. h.blank) hashes.items)) }
 {
-    let mut lines = seen_lines(alloc, quads.as_slice())?;
+    let mut lines = mention_lines(alloc, quads.as_slice())?;
     lines.sort_unstable();
     let hashes = hashes_of(alloc, lines.as_slice())?;
     Ok(hashes)
 }
 
 /// The hash of each blank node whose lines these are.
-fn hashes_of(alloc: Global, lines: &[MarkedLine]) -> Result<Vec<BlankHash>, Memory>
+fn hashes_of(alloc: Global, lines: &[MentionLine]) -> Result<Vec<BlankHash>, Memory>
     requires { InBlankOrder lines.now }
-    ensures { IfOk result (λ hashes. hashes.items ≡ hashed lines.now) }
+    ensures { IfOk result (λ hashes. hashes.items ≡ hashes_in lines.now) }
 {
     let mut hashes = Vec::new(alloc);
     let mut rest = lines;
@@ -49,7 +52,7 @@ fn hashes_of(alloc: Global, lines: &[MarkedLine]) -> Result<Vec<BlankHash>, Memo
 }
 
 /// How many of the first lines are those of one blank node.
-fn run_length(lines: &[MarkedLine], blank: &Text) -> usize
+fn run_length(lines: &[MentionLine], blank: &Text) -> usize
     ensures { result ≡ run_of blank.now lines.now }
 {
     let mut length = 0;
@@ -62,10 +65,11 @@ fn run_length(lines: &[MarkedLine], blank: &Text) -> usize
     length
 }
 
-fn hash_of(alloc: Global, blank: &Text, lines: &[MarkedLine]) -> Result<BlankHash, Memory>
-    ensures { IfOk result (λ h. h ≡ blank_hash blank.now (sha256_digits (concat (map (λ m. m.line) lines.now)))) }
+fn hash_of(alloc: Global, blank: &Text, lines: &[MentionLine]) -> Result<BlankHash, Memory>
+    ensures { IfOk result (λ h.
+        h ≡ blank_hash blank.now (sha256_digits (concat (map (λ m. m.line) lines.now)))) }
 {
-    let text = joined(alloc, lines)?;
+    let text = join_lines(alloc, lines)?;
     let blank = blank.clone()?;
     Ok(BlankHash {
         blank,
@@ -73,7 +77,8 @@ fn hash_of(alloc: Global, blank: &Text, lines: &[MarkedLine]) -> Result<BlankHas
     })
 }
 
-fn joined(alloc: Global, lines: &[MarkedLine]) -> Result<Vec<u8>, Memory>
+/// The lines, one after another.
+fn join_lines(alloc: Global, lines: &[MentionLine]) -> Result<Vec<u8>, Memory>
     ensures { IfOk result (λ bytes. bytes.items ≡ concat (map (λ m. m.line) lines.now)) }
 {
     let mut bytes = Vec::new(alloc);

@@ -1,12 +1,13 @@
 //! First-degree hashes of the blank nodes of a dataset (RDF Dataset Canonicalization, 4.6).
 //!
-//! `first_hashes` writes each statement once for each blank node in it, with that node as `_:a` and the
-//! others as `_:z`, sorts these lines by node, and digests each node's lines. It takes n log n steps.
+//! `first_hashes` writes each statement once for each blank node that it mentions, with that node as
+//! `_:a` and the others as `_:z`, sorts these lines by node, and digests each node's lines. It takes
+//! n log n steps.
 #![tactic(auto)]
 
 mod grouping;
-mod marking;
-mod seen;
+mod marks;
+mod mentions;
 #[cfg(test)]
 mod tests;
 

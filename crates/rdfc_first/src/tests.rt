@@ -1,3 +1,5 @@
+//! Tests of first-degree hashes. Expected hashes were made by another implementation.
+
 use crate::{BlankHash, Memory, TextQuads, first_hashes};
 use nquads::{Text, TextQuad};
 use std::alloc::Global;

@@ -1,5 +1,5 @@
 use Rattle.std.proofs.Common.{◌≡◌, ◌+◌, drop}
-use Rattle.rdfc_first.specs.Grouping.{run_of}
+use Rattle.rdfc_first.specs.Internal.Grouping.{run_of}
 use Rattle.rdfc_first.proofs.grouping.run_length.Given as goal
 
 abbrev pub invariant-loop-line : goal.invariant-loop-line

@@ -2,12 +2,12 @@ use Rattle.std.proofs.Common.{sym, ap, ◌∙◌, ◌++◌, take, map, ◌∷◌
 use Rattle.std.specs.List.{concat}
 use Rattle.std.proofs.lemmas.List.{take_more, map-append}
 use Rattle.nquads.proofs.LineLemmas.{concat-push}
-use Rattle.rdfc_first.specs.declared.seen.MarkedLine.{MarkedLine}
-use Rattle.rdfc_first.proofs.grouping.joined.Goals as goal
+use Rattle.rdfc_first.specs.declared.mentions.MentionLine.{MentionLine}
+use Rattle.rdfc_first.proofs.grouping.join_lines.Goals as goal
 
 pub loop-line-preserved : goal.loop-line-preserved
 loop-line-preserved c =
-    let text = λ (m : MarkedLine). m.line in
+    let text = λ (m : MentionLine). m.line in
     let lines = c.args.lines.now in
     let i = c.loop-line.line-index in
     let l = c.line-item.result in

@@ -10,14 +10,16 @@ use Rattle.base_types.proofs.Lists.{Contains-nil, Contains-here, Contains-cons_c
 use Rattle.nquads.specs.Terms.{Blank, Term, iri, literal, blank, Statement}
 use Rattle.nquads.specs.Renaming.{same_blank, blanks_of_term, blanks_of_graph, blanks_of}
 use Rattle.nquads.specs.Spelling.{blank_text, spelling, text_quad}
-use Rattle.nquads.specs.Lines.{term_text, graph_text, line}
+use Rattle.nquads.specs.Lines.{line}
 use Rattle.nquads.specs.FirstDegree.{mentions, mention_set, mark}
 use Rattle.nquads.specs.declared.quads.TextQuad.{TextQuad}
 use Rattle.nquads.proofs.ReadingTerms.{blank_text_one_reading}
 use Rattle.nquads.proofs.ReadingBlanks.{same_blank-true, same_blank-itself}
-use Rattle.rdfc_first.specs.declared.seen.MarkedLine.{MarkedLine}
-use Rattle.rdfc_first.specs.Marking.{is_blank, marked_part, marked_graph, marked_line, marked, line_at, object_lines, graph_lines, seen}
-use Rattle.rdfc_first.specs.Grouping.{lines_for}
+use Rattle.rdfc_first.specs.declared.mentions.MentionLine.{MentionLine}
+use Rattle.nquads.specs.Texts.{is_blank, text_line}
+use Rattle.nquads.proofs.LineLemmas.{text_line-spelled}
+use Rattle.rdfc_first.specs.Internal.Mentions.{mark_text, mention_line, line_at, object_lines, graph_lines, mention_lines}
+use Rattle.rdfc_first.specs.Internal.Grouping.{lines_for}
 
 -- ---- tests
 
@@ -64,46 +66,36 @@ mentions_is n s =
     or_moved true b d = refl
     or_moved false b d = refl
 
--- ---- a marked line
+-- ---- a line, marked for one blank node
 
-cond_ap : {X Y : Type 0} (f : X → Y) (b : Bool) (x y : X) → cond b (f x) (f y) ≡ f (cond b x y)
-cond_ap f true x y = refl
-cond_ap f false x y = refl
+mark_is : (n b : Blank) → mark_text (blank_text n) (blank_text b) ≡ mark n b
+mark_is n b = ap (λ test. cond test (codes "a") (codes "z")) (same_text n b)
 
-marked_part-spelling : (n : Blank) (t : Term) → marked_part (blank_text n) (spelling t) ≡ term_text (mark n) t
-marked_part-spelling n (iri text) = refl
-marked_part-spelling n (literal text datatype language) = refl
-marked_part-spelling n (blank b) = ap (λ test. cond test (codes "_:a") (codes "_:z")) (same_text n b) ∙ cond_ap (λ label. 95 ∷ 58 ∷ label) (same_blank n b) (codes "a") (codes "z")
-
-marked_graph-spelling : (n : Blank) (g : Option Term) → marked_graph (blank_text n) (option_map spelling g) ≡ graph_text (mark n) g
-marked_graph-spelling n None = refl
-marked_graph-spelling n (Some t) = ap (λ text. text ++ 32 ∷ []) (marked_part-spelling n t)
-
-pub marked_line-spelled : (n : Blank) (s : Statement) → marked_line (blank_text n) (text_quad s) ≡ line (mark n) s
-marked_line-spelled n s = rw (marked_part-spelling n s.subject, marked_part-spelling n s.object, marked_graph-spelling n s.graph) refl
+pub mention_line-spelled : (n : Blank) (s : Statement) → text_line (mark_text (blank_text n)) (text_quad s) ≡ line (mark n) s
+mention_line-spelled n s = text_line-spelled (mark_text (blank_text n)) s ∙ (λ i. line (λ b. mark_is n b i) s)
 
 -- ---- the lines of a statement for one blank node
 
-module _ (x : List ℕ) (quad : TextQuad) (named : is_blank x ≡ true) where
-  abbrev for_x : MarkedLine → Bool
+module _ (x : List ℕ) (quad : TextQuad) (is : is_blank x ≡ true) where
+  abbrev for_x : MentionLine → Bool
   for_x m = bytes_eq m.blank x
 
-  abbrev one_if : Bool → List MarkedLine
-  one_if b = cond b (marked quad x ∷ []) []
+  abbrev one_if : Bool → List MentionLine
+  one_if b = cond b (mention_line quad x ∷ []) []
 
   line_at-filter : (part : List ℕ) → filter for_x (line_at quad part) ≡ one_if (bytes_eq part x)
   line_at-filter part = go (bytes_eq part x) refl
     where
-      other : (b : Bool) → bytes_eq part x ≡ false → filter for_x (cond b (marked quad part ∷ []) []) ≡ []
+      other : (b : Bool) → bytes_eq part x ≡ false → filter for_x (cond b (mention_line quad part ∷ []) []) ≡ []
       other true e = rw e refl
       other false e = refl
 
       go : (t : Bool) → bytes_eq part x ≡ t → filter for_x (line_at quad part) ≡ one_if t
       go true e =
           let same : part ≡ x = (bytes_eq-Decides part x).0 e in
-          let starts : is_blank part ≡ true = ap is_blank same ∙ named in
+          let starts : is_blank part ≡ true = ap is_blank same ∙ is in
           let itself : bytes_eq x x ≡ true = (bytes_eq-Decides x x).1 refl in
-          ap (λ p. filter for_x (line_at quad p)) same ∙ ap (λ b. filter for_x (cond b (marked quad x ∷ []) [])) named ∙ ap (λ b. cond b (marked quad x ∷ []) []) itself
+          ap (λ p. filter for_x (line_at quad p)) same ∙ ap (λ b. filter for_x (cond b (mention_line quad x ∷ []) [])) is ∙ ap (λ b. cond b (mention_line quad x ∷ []) []) itself
       go false e = other (is_blank part) e
 
   pick : (p q r : Bool) → (p ≡ true → q ≡ true → r ≡ true) → (p ≡ false → q ≡ true → r ≡ false) → one_if p ++ cond r [] (one_if q) ≡ one_if (p || q)
@@ -154,8 +146,8 @@ module _ (x : List ℕ) (quad : TextQuad) (named : is_blank x ≡ true) where
       ap (λ ls. one_if (bytes_eq quad.subject x || bytes_eq quad.object x) ++ ls) (filter_if (bytes_eq quad.subject g || bytes_eq quad.object g) g)
       ∙ pick (bytes_eq quad.subject x || bytes_eq quad.object x) (bytes_eq g x) (bytes_eq quad.subject g || bytes_eq quad.object g) (or_same quad.subject quad.object g) (or_apart quad.subject quad.object g)
 
-  pub seen-filter : filter for_x (seen quad) ≡ one_if ((bytes_eq quad.subject x || bytes_eq quad.object x) || graph_has x quad.graph)
-  seen-filter =
+  pub mention_lines-filter : filter for_x (mention_lines quad) ≡ one_if ((bytes_eq quad.subject x || bytes_eq quad.object x) || graph_has x quad.graph)
+  mention_lines-filter =
       let whole = filter-append for_x (line_at quad quad.subject) (object_lines quad ++ graph_lines quad quad.graph) in
       let rest = filter-append for_x (object_lines quad) (graph_lines quad quad.graph) in
       let first = line_at-filter quad.subject in
@@ -167,24 +159,24 @@ module _ (x : List ℕ) (quad : TextQuad) (named : is_blank x ≡ true) where
       ∙ ap (λ ls. ls ++ filter for_x (graph_lines quad quad.graph)) two
       ∙ graph_part quad.graph
 
-pub lines_for-seen : (n : Blank) (s : Statement) → lines_for (blank_text n) (seen (text_quad s)) ≡ cond (mentions n s) (line (mark n) s ∷ []) []
-lines_for-seen n s =
-    ap (map (λ (m : MarkedLine). m.line)) (seen-filter (blank_text n) (text_quad s) refl ∙ ap (λ b. cond b (marked (text_quad s) (blank_text n) ∷ []) []) (mentions_is n s))
+pub lines_for-mentions : (n : Blank) (s : Statement) → lines_for (blank_text n) (mention_lines (text_quad s)) ≡ cond (mentions n s) (line (mark n) s ∷ []) []
+lines_for-mentions n s =
+    ap (map (λ (m : MentionLine). m.line)) (mention_lines-filter (blank_text n) (text_quad s) refl ∙ ap (λ b. cond b (mention_line (text_quad s) (blank_text n) ∷ []) []) (mentions_is n s))
     ∙ go (mentions n s)
   where
-    go : (b : Bool) → map (λ (m : MarkedLine). m.line) (cond b (marked (text_quad s) (blank_text n) ∷ []) []) ≡ cond b (line (mark n) s ∷ []) []
-    go true = ap (λ l. l ∷ []) (marked_line-spelled n s)
+    go : (b : Bool) → map (λ (m : MentionLine). m.line) (cond b (mention_line (text_quad s) (blank_text n) ∷ []) []) ≡ cond b (line (mark n) s ∷ []) []
+    go true = ap (λ l. l ∷ []) (mention_line-spelled n s)
     go false = refl
 
 -- ---- the lines of a dataset for one blank node
 
-pub lines_for-dataset : (n : Blank) (q : List Statement) → lines_for (blank_text n) (flat_map seen (map text_quad q)) ≡ map (line (mark n)) (mention_set q n)
+pub lines_for-dataset : (n : Blank) (q : List Statement) → lines_for (blank_text n) (flat_map mention_lines (map text_quad q)) ≡ map (line (mark n)) (mention_set q n)
 lines_for-dataset n [] = refl
 lines_for-dataset n (s ∷ q) =
-    let p = λ (m : MarkedLine). bytes_eq m.blank (blank_text n) in
-    ap (map (λ (m : MarkedLine). m.line)) (filter-append p (seen (text_quad s)) (flat_map seen (map text_quad q)))
-    ∙ map-append (λ (m : MarkedLine). m.line) (filter p (seen (text_quad s))) (filter p (flat_map seen (map text_quad q)))
-    ∙ (λ i. lines_for-seen n s i ++ lines_for-dataset n q i)
+    let p = λ (m : MentionLine). bytes_eq m.blank (blank_text n) in
+    ap (map (λ (m : MentionLine). m.line)) (filter-append p (mention_lines (text_quad s)) (flat_map mention_lines (map text_quad q)))
+    ∙ map-append (λ (m : MentionLine). m.line) (filter p (mention_lines (text_quad s))) (filter p (flat_map mention_lines (map text_quad q)))
+    ∙ (λ i. lines_for-mentions n s i ++ lines_for-dataset n q i)
     ∙ go (mentions n s)
   where
     go : (b : Bool) → cond b (line (mark n) s ∷ []) [] ++ map (line (mark n)) (mention_set q n) ≡ map (line (mark n)) (cond b (s ∷ mention_set q n) (mention_set q n))
@@ -193,14 +185,14 @@ lines_for-dataset n (s ∷ q) =
 
 -- ---- which blank nodes have lines
 
-from_line_at : (quad : TextQuad) (part : List ℕ) (m : MarkedLine) → Contains (line_at quad part) m → (is_blank part ≡ true) × (m.blank ≡ part)
+from_line_at : (quad : TextQuad) (part : List ℕ) (m : MentionLine) → Contains (line_at quad part) m → (is_blank part ≡ true) × (m.blank ≡ part)
 from_line_at quad part m c = go (is_blank part) refl c
   where
-    go : (b : Bool) → is_blank part ≡ b → Contains (cond b (marked quad part ∷ []) []) m → (is_blank part ≡ true) × (m.blank ≡ part)
-    go true e c = elim (Contains-cons_cases (marked quad part) [] m c) [ inl f ↦ (e, λ i. (sym f i).blank) | inr d ↦ absurd (Contains-nil m d) ]
+    go : (b : Bool) → is_blank part ≡ b → Contains (cond b (mention_line quad part ∷ []) []) m → (is_blank part ≡ true) × (m.blank ≡ part)
+    go true e c = elim (Contains-cons_cases (mention_line quad part) [] m c) [ inl f ↦ (e, λ i. (sym f i).blank) | inr d ↦ absurd (Contains-nil m d) ]
     go false e c = absurd (Contains-nil m c)
 
-from_cond : (b : Bool) (ms : List MarkedLine) (m : MarkedLine) → Contains (cond b [] ms) m → Contains ms m
+from_cond : (b : Bool) (ms : List MentionLine) (m : MentionLine) → Contains (cond b [] ms) m → Contains ms m
 from_cond true ms m c = absurd (Contains-nil m c)
 from_cond false ms m c = c
 
@@ -209,14 +201,14 @@ part_blank (iri text) x e f = absurd (cc)
 part_blank (literal text datatype language) x e f = absurd (cc)
 part_blank (blank b) x e f = (b, Contains-here b [], f)
 
-graph_blank : (s : Statement) (g : Option Term) (m : MarkedLine) → Contains (graph_lines (text_quad s) (option_map spelling g)) m → (n : Blank) × Contains (blanks_of_graph g) n × (m.blank ≡ blank_text n)
+graph_blank : (s : Statement) (g : Option Term) (m : MentionLine) → Contains (graph_lines (text_quad s) (option_map spelling g)) m → (n : Blank) × Contains (blanks_of_graph g) n × (m.blank ≡ blank_text n)
 graph_blank s None m c = absurd (Contains-nil m c)
 graph_blank s (Some t) m c =
     let at = from_line_at (text_quad s) (spelling t) m (from_cond (bytes_eq (spelling s.subject) (spelling t) || bytes_eq (spelling s.object) (spelling t)) (line_at (text_quad s) (spelling t)) m c) in
     part_blank t m.blank at.0 at.1
 
-pub seen_blank : (s : Statement) (m : MarkedLine) → Contains (seen (text_quad s)) m → (n : Blank) × Contains (blanks_of s) n × (m.blank ≡ blank_text n)
-seen_blank s m c =
+pub mention_blank : (s : Statement) (m : MentionLine) → Contains (mention_lines (text_quad s)) m → (n : Blank) × Contains (blanks_of s) n × (m.blank ≡ blank_text n)
+mention_blank s m c =
     elim (Contains-append_cases (line_at (text_quad s) (spelling s.subject)) (object_lines (text_quad s) ++ graph_lines (text_quad s) (option_map spelling s.graph)) m c) [
       | inl d ↦ let at = from_line_at (text_quad s) (spelling s.subject) m d in
           let n = part_blank s.subject m.blank at.0 at.1 in
@@ -230,12 +222,12 @@ seen_blank s m c =
       ]
     ]
 
-pub mentioned : (n : Blank) (bs : List Blank) → Contains bs n → list_any (same_blank n) bs ≡ true
-mentioned n [] c = absurd (Contains-nil n c)
-mentioned n (b ∷ bs) c =
+pub mentions-contains : (n : Blank) (bs : List Blank) → Contains bs n → list_any (same_blank n) bs ≡ true
+mentions-contains n [] c = absurd (Contains-nil n c)
+mentions-contains n (b ∷ bs) c =
     elim (Contains-cons_cases b bs n c) [
       | inl e ↦ ap (λ t. t || list_any (same_blank n) bs) (subst (λ (z : Blank). same_blank n z ≡ true) (sym e) (same_blank-itself n))
-      | inr d ↦ go (same_blank n b) (mentioned n bs d)
+      | inr d ↦ go (same_blank n b) (mentions-contains n bs d)
     ]
   where
     go : (t : Bool) → list_any (same_blank n) bs ≡ true → (t || list_any (same_blank n) bs) ≡ true

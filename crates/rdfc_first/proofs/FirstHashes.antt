@@ -18,29 +18,29 @@ use Rattle.nquads.specs.Lines.{line}
 use Rattle.nquads.specs.FirstDegree.{mentions, mention_set, mark, first_degree_hash, blank_hash, AreFirstHashes}
 use Rattle.nquads.specs.declared.hashes.BlankHash.{BlankHash}
 use Rattle.nquads.proofs.ReadingBlanks.{to_blanks_in, from_blanks_in}
-use Rattle.rdfc_first.specs.declared.seen.MarkedLine.{MarkedLine}
-use Rattle.rdfc_first.specs.Marking.{seen}
-use Rattle.rdfc_first.specs.Grouping.{lines_for, hash_in, hashed, InBlankOrder}
-use Rattle.rdfc_first.proofs.FilterLemmas.{Contains-from_filter, filter-passes, Contains-filter}
-use Rattle.rdfc_first.proofs.GroupLemmas.{lines_for-sorted}
-use Rattle.rdfc_first.proofs.MarkLemmas.{lines_for-dataset, seen_blank, mentioned}
+use Rattle.rdfc_first.specs.declared.mentions.MentionLine.{MentionLine}
+use Rattle.rdfc_first.specs.Internal.Mentions.{mention_lines}
+use Rattle.rdfc_first.specs.Internal.Grouping.{lines_for, hash_in, hashes_in, InBlankOrder}
+use Rattle.rdfc_first.proofs.Filters.{Contains-from_filter, filter-passes, Contains-filter}
+use Rattle.rdfc_first.proofs.Runs.{lines_for-sorted}
+use Rattle.rdfc_first.proofs.MentionLines.{lines_for-dataset, mention_blank, mentions-contains}
 
-abbrev blank_of : MarkedLine → List ℕ
+abbrev blank_of : MentionLine → List ℕ
 blank_of m = m.blank
 
 -- the statement of a line
-line_of : (q : List Statement) (m : MarkedLine) → Contains (flat_map seen (map text_quad q)) m → (n : Blank) × StandsIn q n × (m.blank ≡ blank_text n)
+line_of : (q : List Statement) (m : MentionLine) → Contains (flat_map mention_lines (map text_quad q)) m → (n : Blank) × StandsIn q n × (m.blank ≡ blank_text n)
 line_of q m c = let at = from q q (λ s d. d) c in at
   where
-    from : (all q : List Statement) → ((s : Statement) → Contains q s → Contains all s) → Contains (flat_map seen (map text_quad q)) m → (n : Blank) × StandsIn all n × (m.blank ≡ blank_text n)
+    from : (all q : List Statement) → ((s : Statement) → Contains q s → Contains all s) → Contains (flat_map mention_lines (map text_quad q)) m → (n : Blank) × StandsIn all n × (m.blank ≡ blank_text n)
     from all [] within c = absurd (Contains-nil m c)
     from all (s ∷ q) within c =
-        elim (Contains-append_cases (seen (text_quad s)) (flat_map seen (map text_quad q)) m c) [
-          | inl d ↦ let n = seen_blank s m d in (n.0, to_blanks_in all s n.0 (within s (Contains-here s q)) n.1, n.2)
+        elim (Contains-append_cases (mention_lines (text_quad s)) (flat_map mention_lines (map text_quad q)) m c) [
+          | inl d ↦ let n = mention_blank s m d in (n.0, to_blanks_in all s n.0 (within s (Contains-here s q)) n.1, n.2)
           | inr d ↦ from all q (λ t e. within t (Contains-there s q t e)) d
         ]
 
-module _ (q : List Statement) (lines sorted : List MarkedLine) (made : lines ≡ flat_map seen (map text_quad q)) (moved : IsPermutation lines sorted) (up : InBlankOrder sorted) where
+module _ (q : List Statement) (lines sorted : List MentionLine) (made : lines ≡ flat_map mention_lines (map text_quad q)) (moved : IsPermutation lines sorted) (up : InBlankOrder sorted) where
   from_blanks : (x : List ℕ) → Contains (sorted_set (map blank_of sorted)) x → (n : Blank) × StandsIn q n × (x ≡ blank_text n)
   from_blanks x c =
       let m = Contains-from_map blank_of sorted x ((rising-same (map blank_of sorted) x).0 c) in
@@ -51,12 +51,12 @@ module _ (q : List Statement) (lines sorted : List MarkedLine) (made : lines ≡
   to_blanks : (n : Blank) → StandsIn q n → Contains (sorted_set (map blank_of sorted)) (blank_text n)
   to_blanks n stands =
       let at = from_blanks_in q n stands in
-      let told : Contains (mention_set q n) at.statement = Contains-filter (mentions n) q at.statement (mentioned n (blanks_of at.statement) at.blank_node) at.within in
-      let lined : Contains (lines_for (blank_text n) (flat_map seen (map text_quad q))) (line (mark n) at.statement) = subst (λ ls. Contains ls (line (mark n) at.statement)) (sym (lines_for-dataset n q)) (Contains-map (line (mark n)) (mention_set q n) at.statement told) in
-      let p = λ (m : MarkedLine). bytes_eq m.blank (blank_text n) in
-      let m = Contains-from_map (λ (m : MarkedLine). m.line) (filter p (flat_map seen (map text_quad q))) (line (mark n) at.statement) lined in
-      let same : m.0.blank ≡ blank_text n = (bytes_eq-Decides m.0.blank (blank_text n)).0 (filter-passes p (flat_map seen (map text_quad q)) m.0 m.1) in
-      let within : Contains lines m.0 = subst (λ ls. Contains ls m.0) (sym made) (Contains-from_filter p (flat_map seen (map text_quad q)) m.0 m.1) in
+      let told : Contains (mention_set q n) at.statement = Contains-filter (mentions n) q at.statement (mentions-contains n (blanks_of at.statement) at.blank_node) at.within in
+      let lined : Contains (lines_for (blank_text n) (flat_map mention_lines (map text_quad q))) (line (mark n) at.statement) = subst (λ ls. Contains ls (line (mark n) at.statement)) (sym (lines_for-dataset n q)) (Contains-map (line (mark n)) (mention_set q n) at.statement told) in
+      let p = λ (m : MentionLine). bytes_eq m.blank (blank_text n) in
+      let m = Contains-from_map (λ (m : MentionLine). m.line) (filter p (flat_map mention_lines (map text_quad q))) (line (mark n) at.statement) lined in
+      let same : m.0.blank ≡ blank_text n = (bytes_eq-Decides m.0.blank (blank_text n)).0 (filter-passes p (flat_map mention_lines (map text_quad q)) m.0 m.1) in
+      let within : Contains lines m.0 = subst (λ ls. Contains ls m.0) (sym made) (Contains-from_filter p (flat_map mention_lines (map text_quad q)) m.0 m.1) in
       let there : Contains (map blank_of sorted) (blank_text n) = subst (Contains (map blank_of sorted)) same (Contains-map blank_of sorted m.0 (Contains-permutation lines sorted m.0 moved within)) in
       (rising-same (map blank_of sorted) (blank_text n)).1 there
 
@@ -65,15 +65,15 @@ module _ (q : List Statement) (lines sorted : List MarkedLine) (made : lines ≡
       ap (λ ls. blank_hash (blank_text n) (sha256_digits (concat ls)))
       (lines_for-sorted (blank_text n) lines sorted moved up ∙ ap (λ ls. in_order (lines_for (blank_text n) ls)) made ∙ ap in_order (lines_for-dataset n q))
 
-names_kept : (sorted : List MarkedLine) (xs : List (List ℕ)) → map (λ (h : BlankHash). h.blank) (map (hash_in sorted) xs) ≡ xs
+names_kept : (sorted : List MentionLine) (xs : List (List ℕ)) → map (λ (h : BlankHash). h.blank) (map (hash_in sorted) xs) ≡ xs
 names_kept sorted [] = refl
 names_kept sorted (x ∷ xs) = ap (λ ys. x ∷ ys) (names_kept sorted xs)
 
-pub names_rise : (sorted : List MarkedLine) (hashes : List BlankHash) → hashes ≡ hashed sorted → IsStrictlySortedBy text_cmp (map (λ (h : BlankHash). h.blank) hashes)
+pub names_rise : (sorted : List MentionLine) (hashes : List BlankHash) → hashes ≡ hashes_in sorted → IsStrictlySortedBy text_cmp (map (λ (h : BlankHash). h.blank) hashes)
 names_rise sorted hashes is =
     subst (IsStrictlySortedBy text_cmp) (sym (ap (map (λ (h : BlankHash). h.blank)) is ∙ names_kept sorted (sorted_set (map blank_of sorted)))) (rising-rises (map blank_of sorted))
 
-pub are_first : (q : List Statement) (lines sorted : List MarkedLine) (hashes : List BlankHash) → lines ≡ flat_map seen (map text_quad q) → IsPermutation lines sorted → InBlankOrder sorted → hashes ≡ hashed sorted → AreFirstHashes sha256_digits q hashes
+pub are_first : (q : List Statement) (lines sorted : List MentionLine) (hashes : List BlankHash) → lines ≡ flat_map mention_lines (map text_quad q) → IsPermutation lines sorted → InBlankOrder sorted → hashes ≡ hashes_in sorted → AreFirstHashes sha256_digits q hashes
 are_first q lines sorted hashes made moved up is = record {
   once = AllDiffer-strictly_sorted nat_list_cmp_total (map (λ (h : BlankHash). h.blank) hashes) (names_rise sorted hashes is);
   exact = λ h. (to h, fro h);
@@ -87,5 +87,5 @@ are_first q lines sorted hashes made moved up is = record {
 
     fro : (h : BlankHash) → (n : Blank) × StandsIn q n × (h ≡ blank_hash (blank_text n) (first_degree_hash sha256_digits q n)) → Contains hashes h
     fro h (n, stands, e) =
-        let there : Contains (hashed sorted) (hash_in sorted (blank_text n)) = Contains-map (hash_in sorted) (sorted_set (map blank_of sorted)) (blank_text n) (to_blanks q lines sorted made moved up n stands) in
-        subst (λ hs. Contains hs h) (sym is) (subst (Contains (hashed sorted)) (hash_is q lines sorted made moved up n ∙ sym e) there)
+        let there : Contains (hashes_in sorted) (hash_in sorted (blank_text n)) = Contains-map (hash_in sorted) (sorted_set (map blank_of sorted)) (blank_text n) (to_blanks q lines sorted made moved up n stands) in
+        subst (λ hs. Contains hs h) (sym is) (subst (Contains (hashes_in sorted)) (hash_is q lines sorted made moved up n ∙ sym e) there)
