@@ -113,9 +113,7 @@ def graph(root):
             cites[key] = set(cited("\n".join(definition.block), known, modules)) - {key}
             for name in constructors(definition):
                 cites[Key(crate, module, name)] = {key}
-        for other, other_module, braces in PASSED_ON.findall(text):
-            for name in filter(None, (n.strip() for n in braces.split(","))):
-                cites[Key(crate, module, name)] = {Key(other, other_module, name)}
+    cites.update({key: {origin} for key, origin in passed_on(root).items()})
     return cites, places
 
 
@@ -187,13 +185,23 @@ def public_clauses(item, names, is_public_module):
     return clauses(item) if is_seen else ""
 
 
+def passed_on(root):
+    """Names that a file of specs/ passes on by `pub use`, each with the definition that it stands for."""
+    found = {}
+    for crate, module, path in spec_files(root):
+        for other, other_module, braces in PASSED_ON.findall(path.read_text()):
+            for name in filter(None, (n.strip() for n in braces.split(","))):
+                found[Key(crate, module, name)] = Key(other, other_module, name)
+    return found
+
+
 def crates(root):
     return re.findall(r"^(\w+)", (root / "crates.txt").read_text(), re.M)
 
 
 def cited_by_contracts(root):
     """The definitions that public contracts, models and ghost members cite, with what cites them."""
-    found = {}
+    found, origins = {}, passed_on(root)
     for crate in crates(root):
         names, public_modules = exported(root / "crates" / crate)
         for path in sorted(root.glob(f"crates/{crate}/src/**/*.rt")):
@@ -204,6 +212,8 @@ def cited_by_contracts(root):
             for item in items(text):
                 said = public_clauses(item, names, path.stem in public_modules)
                 for key in cited(said, imported, modules):
+                    while key in origins:
+                        key = origins[key]
                     found.setdefault(key, []).append((path, item[0].strip()))
     return found
 
