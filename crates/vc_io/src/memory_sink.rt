@@ -1,7 +1,8 @@
-ghost use Rattle.std.specs.Prelude.{◌≡◌, [], ◌<◌, ◌≤◌, ◌↔◌, length, take, Some, IfOk, OnErr, IsErr};
+//! A sink into memory, which fails at chosen calls.
+ghost use Rattle.std.specs.Prelude.{◌≡◌, [], ◌<◌, ◌≤◌, ◌↔◌, length, take, IfOk, OnErr, IsErr};
 ghost use Rattle.base_types.specs.Counts.{HasRisen};
 ghost use Rattle.vc_io.specs.Bytes.{Wrote, WrotePrefix};
-ghost use Rattle.vc_io.specs.InMemory.{WriteFails, write_count, after_write, after_failed_write};
+ghost use Rattle.vc_io.specs.InMemory.{empty_sink, sink_meaning, WriteFails, write_count, after_write, after_failed_write};
 
 use crate::memory_source::move_count;
 use crate::sink::Sink;
@@ -10,9 +11,10 @@ use base_types::Memory;
 use std::alloc::Global;
 use std::marker::Model;
 
-/// A sink into memory for `room` bytes, which it takes at the start, so that a write takes none. Each
-/// write takes as many bytes as it can, at most `piece` (0 counts as 1). It fails exactly at the calls
-/// whose numbers, from 1, stand in `fails`, and where there are bytes to take and no room is left.
+/// A sink into memory for `room` bytes, which it takes at the start, so that a write takes none.
+/// Each write takes as many bytes as it can, at most `piece` (0 counts as 1). It fails exactly at
+/// the calls whose numbers, from 1, stand in `fails`, and where there are bytes to take and no room
+/// is left.
 #[derive(Debug, Drop)]
 pub struct MemorySink {
     bytes: Vec<u8>,
@@ -29,7 +31,14 @@ impl Model for MemorySink {
 
     ghost Value = { SinkState };
 
-    ghost view = { λ s. record { written = s.bytes.items; room = s.room; piece = s.piece; fails = s.fails.items; calls = s.calls; count = s.count } };
+    ghost view = { λ s. record {
+      written = s.bytes.items;
+      room = s.room;
+      piece = s.piece;
+      fails = s.fails.items;
+      calls = s.calls;
+      count = s.count;
+    } };
 
     ghost invariant = { λ s. (vec_len s.bytes ≤ s.room) × (s.room ≤ vec_capacity s.bytes) };
 }
@@ -37,7 +46,7 @@ impl Model for MemorySink {
 impl MemorySink {
     /// An empty sink, called no time yet, with the memory for `room` bytes.
     pub fn new(alloc: Global, room: u64, piece: u64, fails: Vec<u64>) -> Result<MemorySink, Memory>
-        ensures { IfOk result (λ s. s ≡ record { written = []; room = room; piece = piece; fails = fails.items; calls = 0; count = 0 }) }
+        ensures { IfOk result (λ s. s ≡ empty_sink room piece fails.items) }
     {
         let room = room as usize;
         Ok(MemorySink {
@@ -83,18 +92,18 @@ impl MemorySink {
 }
 
 impl Sink for MemorySink {
-    ghost written = { λ s. Some s.written };
-
-    ghost faults = { λ s. s.count };
+    ghost means = { sink_meaning };
 
     fn write(&mut self, from: &[u8]) -> Result<usize, Failed>
         ensures within { IfOk result (λ n. n ≤ length from.now) }
         ensures some { IfOk result (λ n. 0 < length from.now → 0 < n) }
-        ensures wrote { IfOk result (λ n. Wrote (Some self.old.written) (Some self.new.written) (take n from.now)) }
-        ensures prefix { OnErr result (WrotePrefix (Some self.old.written) (Some self.new.written) from.now) }
+        ensures wrote { IfOk result (λ n.
+            Wrote (sink_meaning self.old) (sink_meaning self.new) (take n from.now)) }
+        ensures prefix { OnErr result (
+            WrotePrefix (sink_meaning self.old) (sink_meaning self.new) from.now) }
         ensures counted { self.old.count ≤ self.new.count }
         ensures failed { OnErr result (HasRisen self.old.count self.new.count) }
-        // exactly what it does
+        // and exactly what it does
         ensures fails { IsErr result ↔ WriteFails self.old (length from.now) }
         ensures count { IfOk result (λ n. n ≡ write_count self.old (length from.now)) }
         ensures after { IfOk result (λ n. self.new ≡ after_write self.old (take n from.now)) }

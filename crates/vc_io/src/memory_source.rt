@@ -1,14 +1,15 @@
-ghost use Rattle.std.specs.Prelude.{◌≡◌, ◌<◌, ◌≤◌, ◌↔◌, ◌++◌, length, take, drop, Some, IfOk, OnErr, IsErr};
+//! A source over bytes in memory, which fails at chosen calls.
+ghost use Rattle.std.specs.Prelude.{◌≡◌, ◌<◌, ◌≤◌, ◌↔◌, ◌++◌, length, take, drop, IfOk, OnErr, IsErr};
 ghost use Rattle.std.specs.Io.KnownBytes.{IsAtEnd};
 ghost use Rattle.base_types.specs.Counts.{HasRisen};
 ghost use Rattle.vc_io.specs.Bytes.{Gave};
-ghost use Rattle.vc_io.specs.InMemory.{moved_count, ReadFails, read_count, after_read, after_failed_read};
+ghost use Rattle.vc_io.specs.InMemory.{moved_count, uncalled_source, source_meaning, ReadFails, read_count, after_read, after_failed_read};
 
 use crate::source::{Failed, Source};
 use std::marker::Model;
 
-/// A source over bytes in memory. Each read gives as many bytes as it can, at most `piece` (0 counts
-/// as 1), and fails exactly at the calls whose numbers, from 1, stand in `fails`.
+/// A source over bytes in memory. Each read gives as many bytes as it can, at most `piece` (0
+/// counts as 1), and fails exactly at the calls whose numbers, from 1, stand in `fails`.
 #[derive(Debug, Drop)]
 pub struct MemorySource {
     bytes: Vec<u8>,
@@ -25,7 +26,13 @@ impl Model for MemorySource {
 
     ghost Value = { SourceState };
 
-    ghost view = { λ s. record { left = drop s.at s.bytes.items; piece = s.piece; fails = s.fails.items; calls = s.calls; count = s.count } };
+    ghost view = { λ s. record {
+      left = drop s.at s.bytes.items;
+      piece = s.piece;
+      fails = s.fails.items;
+      calls = s.calls;
+      count = s.count;
+    } };
 
     ghost invariant = { λ s. s.at ≤ length s.bytes.items };
 }
@@ -33,7 +40,7 @@ impl Model for MemorySource {
 impl MemorySource {
     /// A source that gives `bytes`, called no time yet. It takes no memory.
     pub fn new(bytes: Vec<u8>, piece: u64, fails: Vec<u64>) -> MemorySource
-        ensures { result ≡ record { left = bytes.items; piece = piece; fails = fails.items; calls = 0; count = 0 } }
+        ensures { result ≡ uncalled_source bytes.items piece fails.items }
     {
         MemorySource {
             bytes,
@@ -67,17 +74,17 @@ pub(crate) fn move_count(piece: u64, handed: usize, available: usize) -> usize
 }
 
 impl Source for MemorySource {
-    ghost left = { λ s. Some s.left };
-
-    ghost faults = { λ s. s.count };
+    ghost means = { source_meaning };
 
     fn read(&mut self, into: &mut [u8]) -> Result<usize, Failed>
         ensures within { IfOk result (λ n. n ≤ length into.old) }
-        ensures gave { IfOk result (λ n. Gave (Some self.old.left) (Some self.new.left) (take n into.new)) }
-        ensures end { IfOk result (λ n. n ≡ 0 → 0 < length into.old → IsAtEnd (Some self.old.left)) }
+        ensures gave { IfOk result (λ n.
+            Gave (source_meaning self.old) (source_meaning self.new) (take n into.new)) }
+        ensures end { IfOk result (λ n.
+            n ≡ 0 → 0 < length into.old → IsAtEnd (source_meaning self.old).left) }
         ensures counted { self.old.count ≤ self.new.count }
         ensures failed { OnErr result (HasRisen self.old.count self.new.count) }
-        // exactly what it does
+        // and exactly what it does
         ensures fails { IsErr result ↔ ReadFails self.old }
         ensures count { IfOk result (λ n. n ≡ read_count self.old (length into.old)) }
         ensures after { IfOk result (λ n. self.new ≡ after_read self.old n) }

@@ -1,13 +1,13 @@
-ghost use Rattle.std.specs.Prelude.{◌≡◌, ℕ, List, Option, ◌+◌, ◌<◌, ◌≤◌, length, take, Err, IfOk, OnOk, OnErr, IsErrOf};
+//! What gives bytes, and how all of them are read.
+ghost use Rattle.std.specs.Prelude.{◌≡◌, ℕ, ◌+◌, ◌<◌, ◌≤◌, length, take, Err, IfOk, OnOk, OnErr, IsErrOf};
 ghost use Rattle.std.specs.Io.KnownBytes.{IsAtEnd};
 ghost use Rattle.base_types.specs.Counts.{HasRisen};
-ghost use Rattle.vc_io.specs.Bytes.{Gave, GaveFirst, IsAllOf, IsMoreThan, IsUsedUp};
+ghost use Rattle.vc_io.specs.Bytes.{SourceMeaning, Gave, GaveAll, GaveFirst, IsAllOf, IsMoreThan};
 
-use base_types::Memory;
 use std::alloc::{AllocError, Global};
 
-/// How many bytes one call of `read_all` asks for at most.
-const PIECE: usize = 512;
+/// How many bytes `read_all` asks a source for at once, at most: what a pipe holds.
+const PIECE: usize = 65_536;
 
 /// A read or a write failed. The count of faults of its source or sink rose.
 #[derive(Clone, Copy, Debug, PartialEq, Eq)]
@@ -15,20 +15,18 @@ pub struct Failed;
 
 /// What gives bytes.
 pub trait Source {
-    /// The bytes that it will still give, where it tells them.
-    ghost left: { Self → Option (List ℕ) };
+    /// The bytes that it will still give, where it tells them, and how often it failed.
+    ghost means: { Self → SourceMeaning };
 
-    /// How often it failed.
-    ghost faults: { Self → ℕ };
-
-    /// Puts some bytes at the front of `into`, and answers how many. 0 for an `into` that is not empty
-    /// is the end. `Failed`: the read failed.
+    /// Puts some bytes at the front of `into`, and answers how many. 0 for an `into` that is not
+    /// empty is the end. `Failed`: the read failed.
     fn read(&mut self, into: &mut [u8]) -> Result<usize, Failed>
         ensures within { IfOk result (λ n. n ≤ length into.old) }
-        ensures gave { IfOk result (λ n. Gave (left self.old) (left self.new) (take n into.new)) }
-        ensures end { IfOk result (λ n. n ≡ 0 → 0 < length into.old → IsAtEnd (left self.old)) }
-        ensures counted { faults self.old ≤ faults self.new }
-        ensures failed { OnErr result (HasRisen (faults self.old) (faults self.new)) };
+        ensures gave { IfOk result (λ n. Gave (means self.old) (means self.new) (take n into.new)) }
+        ensures end { IfOk result (λ n.
+            n ≡ 0 → 0 < length into.old → IsAtEnd (means self.old).left) }
+        ensures counted { (means self.old).faults ≤ (means self.new).faults }
+        ensures failed { OnErr result (HasRisen (means self.old).faults (means self.new).faults) };
 }
 
 /// Why `read_all` gave no bytes.
@@ -38,7 +36,7 @@ pub enum ReadAllFault {
     Failed,
     /// The source gave more than so many bytes, the most that were allowed.
     TooLong(u64),
-    /// Want of memory.
+    /// Out of memory.
     Memory,
 }
 
@@ -62,23 +60,35 @@ impl From<AllocError> for ReadAllFault {
     }
 }
 
+/// So many zeros, on the heap.
+fn zeros(alloc: Global, count: usize) -> Result<Vec<u8>, AllocError>
+    ensures { IfOk result (λ bytes. length bytes.items ≡ count) }
+{
+    vec![in alloc; 0u8; count]
+}
+
 /// All bytes of `source` to its end, at most `max` of them.
 ///
-/// `TooLong(max)`: it gave one byte more than that, and reading stopped there. `Failed`: a read failed.
+/// `TooLong(max)`: it gave one byte more than that, and reading stopped there.
+/// `Failed`: a read failed.
 #[tactic(auto, using(crate::proofs::Moves::turns))]
 pub fn read_all<S: Source>(alloc: Global, source: &mut S, max: u64) -> Result<Vec<u8>, ReadAllFault>
-    ensures all { IfOk result (λ bytes. IsAllOf (S.left source.old) bytes.items) }
+    ensures all { IfOk result (λ bytes. IsAllOf (S.means source.old) bytes.items) }
     ensures at_most { IfOk result (λ bytes. length bytes.items ≤ max) }
-    ensures used_up { OnOk result (IsUsedUp (S.left source.old) (S.left source.new)) }
-    ensures too_long { (m : ℕ) → result ≡ Err (ReadAllFault.TooLong m) → (m ≡ max) × IsMoreThan max (S.left source.old) }
-    ensures stops { (m : ℕ) → result ≡ Err (ReadAllFault.TooLong m) → GaveFirst (max + 1) (S.left source.old) (S.left source.new) }
-    ensures failed { IsErrOf result ReadAllFault.Failed → HasRisen (S.faults source.old) (S.faults source.new) }
-    ensures counted { S.faults source.old ≤ S.faults source.new }
+    ensures used_up { OnOk result (GaveAll (S.means source.old) (S.means source.new)) }
+    ensures too_long { (m : ℕ) → result ≡ Err (ReadAllFault.TooLong m)
+        → (m ≡ max) × IsMoreThan max (S.means source.old) }
+    ensures stops { (m : ℕ) → result ≡ Err (ReadAllFault.TooLong m)
+        → GaveFirst (max + 1) (S.means source.old) (S.means source.new) }
+    ensures failed { IsErrOf result ReadAllFault.Failed
+        → HasRisen (S.means source.old).faults (S.means source.new).faults }
+    ensures counted { (S.means source.old).faults ≤ (S.means source.new).faults }
 {
     let mut bytes = Vec::new(alloc);
-    let mut piece = [0u8; PIECE];
+    let mut room = zeros(alloc, PIECE)?;
+    let piece = room.as_mut_slice();
     while bytes.len() as u64 <= max {
-        // At most one byte past `max`. The sum cannot overflow, even where `max` is the greatest u64.
+        // At most one byte past `max`. The sum cannot overflow, even where `max` is `u64::MAX`.
         let wanted = (max - bytes.len() as u64).min(PIECE as u64 - 1) + 1;
         let into = &mut piece[..wanted as usize];
         let taken = source.read(into)?;

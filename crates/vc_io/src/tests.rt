@@ -1,3 +1,4 @@
+//! Reading and writing whole, at pieces, limits and failing calls.
 use crate::{
     Failed, MemorySink, MemorySource, ReadAllFault, ReaderSource, Sink, Source, WriteFailed,
     WriterSink, read_all, write_all,
@@ -96,10 +97,10 @@ fn goes_on_after_a_refusal(rt: HostRuntime) -> Result<(), Fail> {
         b"f".as_slice()
     );
     // a source of more than one piece of the reader's own
-    let long = vec![in alloc; 7u8; 1300]?;
+    let long = vec![in alloc; 7u8; 140_000]?;
     let mut source = MemorySource::new(long.clone()?, u64::MAX, Vec::from_slice(alloc, &[5])?);
     assert_eq!(rt;
-        read_all(alloc, &mut source, 1300)?.as_slice(),
+        read_all(alloc, &mut source, 140_000)?.as_slice(),
         long.as_slice()
     );
     Ok(())
