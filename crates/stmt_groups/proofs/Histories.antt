@@ -17,11 +17,12 @@ use Rattle.stmt_groups.specs.Records.{Signing, signing, record_signings, history
 
 -- ---- where a signing comes from
 
--- a signing is of another line of a record, or of its base bytes
+-- a signing is of another line of a record, or of its sign data
 pub record Origin (history : List BaseRecord) (x : Signing) : Type 0 where
   pub by : BaseRecord
   pub stands : Contains history by
-  pub signs : ((l : List ℕ) × Contains by.others l × (signing by.key l ≡ x)) ⊎ (signing by.issuer (sign_data by.options by.key by.mandatory) ≡ x)
+  pub signs : ((l : List ℕ) × Contains by.others l × (signing by.key l ≡ x))
+      ⊎ (signing by.issuer (sign_data by.options by.key by.mandatory) ≡ x)
 
 signs_of : (r : BaseRecord) (x : Signing) → Contains (record_signings r) x → ((l : List ℕ) × Contains r.others l × (signing r.key l ≡ x)) ⊎ (signing r.issuer (sign_data r.options r.key r.mandatory) ≡ x)
 signs_of r x c = elim (Contains-push_cases (map (signing r.key) r.others) (signing r.issuer (sign_data r.options r.key r.mandatory)) x c) [
@@ -29,6 +30,7 @@ signs_of r x c = elim (Contains-push_cases (map (signing r.key) r.others) (signi
   | inr e ↦ inr e
 ]
 
+-- where a signing of a history comes from
 pub origin : (history : List BaseRecord) (x : Signing) → Contains (history_signings history) x → Origin history x
 origin [] x c = absurd (Contains-nil x c)
 origin (r ∷ rs) x c = elim (Contains-append_cases (record_signings r) (flat_map record_signings rs) x c) [
@@ -38,13 +40,15 @@ origin (r ∷ rs) x c = elim (Contains-append_cases (record_signings r) (flat_ma
       record { by = o.by; stands = Contains-there r rs o.by o.stands; signs = o.signs }
 ]
 
+-- signings that are one have one key
 pub same_key : (k l : KeyName) (xs ys : List ℕ) → signing k xs ≡ signing l ys → k ≡ l
 same_key k l xs ys e = ap (λ (x : Signing). x.key) e
 
+-- and the same bytes
 pub same_bytes : (k l : KeyName) (xs ys : List ℕ) → signing k xs ≡ signing l ys → xs ≡ ys
 same_bytes k l xs ys e = ap (λ (x : Signing). x.bytes) e
 
--- ---- base bytes name their parts
+-- ---- sign data names its parts
 
 cut : (a b r u : List ℕ) → length a ≡ length b → a ++ r ≡ b ++ u → (a ≡ b) × (r ≡ u)
 cut [] [] r u long e = (refl, e)
@@ -57,8 +61,9 @@ cut (x ∷ a) (y ∷ b) r u long e =
     let first : x ≡ y = cc in
     (cc (first, rest.0), rest.1)
 
-pub base_bytes_parts : (o p : List (List ℕ)) (k l : KeyName) (m n : List (List ℕ)) → sign_data o k m ≡ sign_data p l n → (sha256 (concat o) ≡ sha256 (concat p)) × (k ≡ l) × (sha256 (concat m) ≡ sha256 (concat n))
-base_bytes_parts o p k l m n e =
+-- equal sign data has equal digests and one key
+pub sign_data_parts : (o p : List (List ℕ)) (k l : KeyName) (m n : List (List ℕ)) → sign_data o k m ≡ sign_data p l n → (sha256 (concat o) ≡ sha256 (concat p)) × (k ≡ l) × (sha256 (concat m) ≡ sha256 (concat n))
+sign_data_parts o p k l m n e =
     let first = cut (sha256 (concat o)) (sha256 (concat p)) (k.bytes ++ sha256 (concat m)) (l.bytes ++ sha256 (concat n)) (length-sha256 (concat o) ∙ sym (length-sha256 (concat p))) e in
     let one = length-sha256 (concat m) in
     let two = length-sha256 (concat n) in
@@ -78,6 +83,7 @@ apart history differ i j r s here there same less =
     let two : get_or (map (λ (t : BaseRecord). t.key) history) j r.key ≡ s.key = get_or-map (λ (t : BaseRecord). t.key) history j r ∙ ap (λ (t : BaseRecord). t.key) (get_or_from_slice_get history j s r there) in
     differ i j r.key less (omega arith) (one ∙ same ∙ sym two)
 
+-- records with one key stand at one place
 pub one_place : (history : List BaseRecord) → AllDiffer (map (λ (r : BaseRecord). r.key) history) → (i j : ℕ) (r s : BaseRecord) → slice_get history i ≡ Some r → slice_get history j ≡ Some s → r.key ≡ s.key → i ≡ j
 one_place history differ i j r s here there same = elim (cases_order i j) [
   | inl e ↦ e
@@ -87,9 +93,11 @@ one_place history differ i j r s here there same = elim (cases_order i j) [
   ]
 ]
 
+-- a place of a record
 pub place_of : (history : List BaseRecord) (r : BaseRecord) → Contains history r → (i : ℕ) × (slice_get history i ≡ Some r)
 place_of history r c = (c.0, slice_get-get_or history c.0 r c.1 ∙ ap Some c.2)
 
+-- records with one key are one
 pub one_record : (history : List BaseRecord) → AllDiffer (map (λ (r : BaseRecord). r.key) history) → (r s : BaseRecord) → Contains history r → Contains history s → r.key ≡ s.key → r ≡ s
 one_record history differ r s c d same =
     let here = place_of history r c in

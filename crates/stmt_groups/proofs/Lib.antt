@@ -1,4 +1,5 @@
-pub mod LineLemmas
-pub mod Histories
-pub mod Naming
 pub mod Covering
+pub mod Histories
+pub mod LineLemmas
+pub mod Naming
+pub mod Revealing

@@ -1,101 +1,128 @@
 -- A good proof that a history covers names one record of it.
-use Rattle.std.proofs.Common.{◌≡◌, ℕ, List, map, All, Contains, inl, inr, sym, ◌∙◌, subst}
-use Rattle.std.proofs.lemmas.List.Elements.{All-head, All-tail, All-contains}
-use Rattle.base_types.proofs.Lists.{Contains-map}
+use Rattle.std.proofs.Common.{◌≡◌, ◌≢◌, ℕ, true, List, [], ◌∷◌, map, All, Contains, inl, inr, sym, ◌∙◌, subst}
+use Rattle.std.specs.List.{AllZip}
+use Rattle.std.proofs.lemmas.List.Elements.{All-contains}
+use Rattle.base_types.proofs.Lists.{Contains-here, Contains-there, Contains-map, Contains-nil, Contains-cons_cases}
 use Rattle.key_device.specs.declared.keys.KeyName.{KeyName}
-use Rattle.nquads.specs.Terms.{Blank, IsStatement, Statement}
-use Rattle.nquads.specs.Lines.{HasLabels, IsLine, LabelsDiffer, canonical_lines}
+use Rattle.key_device.specs.declared.keys.Signature.{Signature}
+use Rattle.key_device.specs.Devices.{Acceptance}
+use Rattle.nquads.specs.Lines.{IsLine}
 use Rattle.nquads.proofs.ReadingElements.{All-from_contains}
 use Rattle.nquads.proofs.ReadingDatasets.{canonical_lines_are_lines}
 use Rattle.nquads.proofs.ReadingLines.{one_split}
 use Rattle.stmt_groups.specs.declared.types.BaseRecord.{BaseRecord}
-use Rattle.stmt_groups.specs.Lines.{AreLines, lines_at, other_lines}
+use Rattle.stmt_groups.specs.Lines.{AreLines}
+use Rattle.stmt_groups.specs.Datasets.{LabelledDataset, IsLabelled, dataset_lines}
 use Rattle.stmt_groups.specs.Records.{Signing, signing, history_signings, sign_data, HasLines}
-use Rattle.stmt_groups.specs.Proofs.{DerivedProof}
-use Rattle.stmt_groups.specs.Soundness.{IsCovered, IsOnlyRecord, NamesOne}
+use Rattle.stmt_groups.specs.Proofs.{VerifyData, IsGood, checked_signings, mandatory_lines, non_mandatory_lines, verify_bytes}
+use Rattle.stmt_groups.specs.Soundness.{KeysServeOnce, IsCovered, IsOnlyRecord, NamesOne}
 use Rattle.stmt_groups.proofs.LineLemmas.{lines_at-All}
-use Rattle.stmt_groups.proofs.Histories.{Origin, origin, same_key, same_bytes, base_bytes_parts, one_place, place_of, one_record}
+use Rattle.stmt_groups.proofs.Histories.{Origin, origin, same_key, same_bytes, sign_data_parts, one_place, place_of, one_record}
 
-module _ (history : List BaseRecord) (issuer : KeyName) (options lines : List (List ℕ)) (shown : DerivedProof) (h : IsCovered history issuer options lines shown) where
-  -- the record of the base signature
-  pub record Named : Type 0 where
-    pub by : BaseRecord
-    pub stands : Contains history by
-    pub issuer_is : by.issuer ≡ issuer
-    pub key_is : by.key ≡ shown.key
-    pub options_are : AreLines options → by.options ≡ options
-    pub mandatory_are : AreLines lines → by.mandatory ≡ lines_at shown.indexes lines
+-- the record whose issuer signed the sign data of what is verified
+pub record BaseOrigin (history : List BaseRecord) (v : VerifyData) : Type 0 where
+  pub by : BaseRecord
+  pub stands : Contains history by
+  pub issuer_is : by.issuer ≡ v.issuer
+  pub signs : sign_data by.options by.key by.mandatory ≡ verify_bytes v
 
-  abbrev base : Signing
-  base = signing issuer (sign_data options shown.key (lines_at shown.indexes lines))
-
-  from_base : (o : Origin history base) → signing o.by.issuer (sign_data o.by.options o.by.key o.by.mandatory) ≡ base → Named
-  from_base o e =
-      let r = o.by in
-      let mine : r.issuer ≡ issuer = same_key r.issuer issuer _ _ e in
-      let parts = base_bytes_parts r.options options r.key shown.key r.mandatory (lines_at shown.indexes lines) (same_bytes r.issuer issuer _ _ e) in
-      let known : HasLines r = All-contains HasLines history r h.have_lines o.stands in
-      record {
-        by = r;
+-- sign data that was signed under the issuer's key is of a record, where no statement key is that key
+pub base_origin : (history : List BaseRecord) (v : VerifyData) → KeysServeOnce history v.issuer → Contains (history_signings history) (signing v.issuer (verify_bytes v)) → BaseOrigin history v
+base_origin history v keys c =
+    let o = origin history (signing v.issuer (verify_bytes v)) c in
+    elim o.signs [
+      | inl w ↦ absurd (keys.not_this_issuer o.by o.stands (same_key o.by.key v.issuer _ _ w.2))
+      | inr e ↦ record {
+        by = o.by;
         stands = o.stands;
-        issuer_is = mine;
-        key_is = parts.1;
-        options_are = λ are. one_split r.options options known.options are (h.options_text r o.stands mine parts.1 parts.0);
-        mandatory_are = λ are. one_split r.mandatory (lines_at shown.indexes lines) known.mandatory (lines_at-All IsLine shown.indexes 0 lines are) (h.mandatory_text r o.stands mine parts.1 parts.2);
+        issuer_is = same_key o.by.issuer v.issuer _ _ e;
+        signs = same_bytes o.by.issuer v.issuer _ _ e;
       }
+    ]
 
-  pub named : Named
-  named =
-      let o = origin history base (All-head (Contains (history_signings history)) base (map (signing shown.key) (other_lines shown.indexes lines)) h.covered) in
-      elim o.signs [
-        | inl w ↦ absurd (h.not_this_issuer o.by o.stands (same_key o.by.key issuer _ _ w.2))
-        | inr e ↦ from_base o e
-      ]
+-- its statement key is that of the proof
+pub base_key : (history : List BaseRecord) (v : VerifyData) (o : BaseOrigin history v) → o.by.key ≡ v.proof.key
+base_key history v o =
+    (sign_data_parts o.by.options (dataset_lines v.options) o.by.key v.proof.key o.by.mandatory (mandatory_lines v) o.signs).1
 
-  -- each other line is one of its other lines
-  pub others_stand : (n : Named) → All (Contains n.by.others) (other_lines shown.indexes lines)
-  others_stand n =
-      All-from_contains (Contains n.by.others) (other_lines shown.indexes lines)
+-- of two lists that are paired, each element of the first has a partner
+partner : {X Y : Type 0} (R : X → Y → Type 0) (xs : List X) (ys : List Y) (x : X) → AllZip R xs ys → Contains xs x → (y : Y) × R x y
+partner R [] ys x z c = absurd (Contains-nil x c)
+partner R (a ∷ xs) [] x z c = absurd z
+partner R (a ∷ xs) (b ∷ ys) x z c = elim (Contains-cons_cases a xs x c) [
+  | inl e ↦ (b, subst (λ w. R w b) e z.0)
+  | inr d ↦ partner R xs ys x z.1 d
+]
+
+module _ (history : List BaseRecord) (accepts : Acceptance) (v : VerifyData) (g : IsGood accepts v) (h : IsCovered history accepts v) where
+  abbrev base : Signing
+  base = signing v.issuer (verify_bytes v)
+
+  pub the_origin : BaseOrigin history v
+  the_origin =
+      base_origin history v h.keys
+      (h.was_signed base v.proof.signature (Contains-here base (map (signing v.proof.key) (non_mandatory_lines v))) g.base_signature)
+
+  options_are : (o : BaseOrigin history v) → AreLines (dataset_lines v.options) → o.by.options ≡ dataset_lines v.options
+  options_are o are =
+      let parts = sign_data_parts o.by.options (dataset_lines v.options) o.by.key v.proof.key o.by.mandatory (mandatory_lines v) o.signs in
+      one_split o.by.options (dataset_lines v.options) (All-contains HasLines history o.by h.have_lines o.stands).options are
+      (h.texts.options o.by o.stands o.issuer_is parts.1 parts.0)
+
+  mandatory_are : (o : BaseOrigin history v) → AreLines (dataset_lines v.document) → o.by.mandatory ≡ mandatory_lines v
+  mandatory_are o are =
+      let parts = sign_data_parts o.by.options (dataset_lines v.options) o.by.key v.proof.key o.by.mandatory (mandatory_lines v) o.signs in
+      one_split o.by.mandatory (mandatory_lines v) (All-contains HasLines history o.by h.have_lines o.stands).mandatory
+      (lines_at-All IsLine v.proof.indexes 0 (dataset_lines v.document) are)
+      (h.texts.mandatory o.by o.stands o.issuer_is parts.1 parts.2)
+
+  -- a line that is not mandatory was signed with a record of the history
+  line_signed : (l : List ℕ) → Contains (non_mandatory_lines v) l → Contains (history_signings history) (signing v.proof.key l)
+  line_signed l c =
+      let s = partner (λ k t. accepts v.proof.key k t ≡ true) (non_mandatory_lines v) v.proof.signatures l g.statement_signatures c in
+      h.was_signed (signing v.proof.key l) s.0 (Contains-there base (map (signing v.proof.key) (non_mandatory_lines v)) (signing v.proof.key l) (Contains-map (signing v.proof.key) (non_mandatory_lines v) l c)) s.1
+
+  -- each other line is one of the other lines of the record
+  others_stand : (o : BaseOrigin history v) → All (Contains o.by.others) (non_mandatory_lines v)
+  others_stand o =
+      All-from_contains (Contains o.by.others) (non_mandatory_lines v)
       (λ l c.
-      let covered = All-tail (Contains (history_signings history)) base (map (signing shown.key) (other_lines shown.indexes lines)) h.covered in
-      let stands = All-contains (Contains (history_signings history)) (map (signing shown.key) (other_lines shown.indexes lines)) (signing shown.key l) covered (Contains-map (signing shown.key) (other_lines shown.indexes lines) l c) in
-      let o = origin history (signing shown.key l) stands in
-      elim o.signs [
+      let key : o.by.key ≡ v.proof.key = base_key history v o in
+      let p = origin history (signing v.proof.key l) (line_signed l c) in
+      elim p.signs [
         | inl w ↦
-            let key : o.by.key ≡ n.by.key = same_key o.by.key shown.key _ _ w.2 ∙ sym n.key_is in
-            let same : o.by ≡ n.by = one_record history h.keys_differ o.by n.by o.stands n.stands key in
-            let line : w.0 ≡ l = same_bytes o.by.key shown.key _ _ w.2 in
-            subst (Contains n.by.others) line (subst (λ (r : BaseRecord). Contains r.others w.0) same w.1)
-        | inr e ↦ absurd (h.no_issuer n.by o.by n.stands o.stands (n.key_is ∙ sym (same_key o.by.issuer shown.key _ _ e)))
+            let mine : p.by.key ≡ o.by.key = same_key p.by.key v.proof.key _ _ w.2 ∙ sym key in
+            let same : p.by ≡ o.by = one_record history h.keys.differ p.by o.by p.stands o.stands mine in
+            let line : w.0 ≡ l = same_bytes p.by.key v.proof.key _ _ w.2 in
+            subst (Contains o.by.others) line (subst (λ (r : BaseRecord). Contains r.others w.0) same w.1)
+        | inr e ↦ absurd (h.keys.no_issuer o.by p.by o.stands p.stands (key ∙ sym (same_key p.by.issuer v.proof.key _ _ e)))
       ])
 
-  pub only : (n : Named) → IsOnlyRecord history issuer shown.key n.by
-  only n =
-      let place = place_of history n.by n.stands in
+  only_one : (o : BaseOrigin history v) → IsOnlyRecord history v.issuer v.proof.key o.by
+  only_one o =
+      let key : o.by.key ≡ v.proof.key = base_key history v o in
+      let here = place_of history o.by o.stands in
       record {
-        place = place.0;
-        stands = place.1;
-        issuer_is = n.issuer_is;
-        key_is = n.key_is;
-        only = λ other s there _ key. one_place history h.keys_differ other place.0 s n.by there place.1 (key ∙ sym n.key_is);
+        place = here.0;
+        stands = here.1;
+        issuer_is = o.issuer_is;
+        key_is = key;
+        only = λ other s there _ same. one_place history h.keys.differ other here.0 s o.by there here.1 (same ∙ sym key);
       }
 
-pub covered_names_one : (history : List BaseRecord) (issuer : KeyName) (shown : DerivedProof) (label options_label : Blank → List ℕ) (document options : List Statement) → All IsStatement document → All (HasLabels label) document → LabelsDiffer label document → All IsStatement options → All (HasLabels options_label) options → LabelsDiffer options_label options → IsCovered history issuer (canonical_lines options_label options) (canonical_lines label document) shown → NamesOne history issuer document options label shown
-covered_names_one history issuer shown label options_label document options statements labels differ option_statements option_labels option_differ h =
-    let o = canonical_lines options_label options in
-    let l = canonical_lines label document in
-    let n = named history issuer o l shown h in
-    let option_lines : AreLines o = canonical_lines_are_lines options_label options option_statements option_labels in
-    let document_lines : AreLines l = canonical_lines_are_lines label document statements labels in
-    record {
-      named = n.by;
-      only = only history issuer o l shown h n;
-      holds = record {
-        labels_differ = differ;
-        mandatory = sym (n.mandatory_are document_lines);
-        others = others_stand history issuer o l shown h n;
-        options_label = options_label;
-        options_differ = option_differ;
-        options_lines = sym (n.options_are option_lines);
-      };
-    }
+  pub covered_names_one : IsLabelled v.document → IsLabelled v.options → NamesOne history v
+  covered_names_one document options =
+      let o = the_origin in
+      let option_lines : AreLines (dataset_lines v.options) = canonical_lines_are_lines v.options.label v.options.statements options.well_formed options.in_grammar in
+      let document_lines : AreLines (dataset_lines v.document) = canonical_lines_are_lines v.document.label v.document.statements document.well_formed document.in_grammar in
+      record {
+        one = o.by;
+        only = only_one o;
+        holds = record {
+          document_labels = document;
+          options_labels = options;
+          mandatory = sym (mandatory_are o document_lines);
+          others = others_stand o;
+          options_lines = sym (options_are o option_lines);
+        };
+      }

@@ -14,11 +14,15 @@ is_listed places at = list_any (λ n. n == at) places
 -- the lines at the listed places, and those at the others, where the first line stands at a place
 abbrev pub listed_from : ℕ → List ℕ → List (List ℕ) → List (List ℕ)
 listed_from at places [] = []
-listed_from at places (l ∷ ls) = if is_listed places at then l ∷ listed_from (at + 1) places ls else listed_from (at + 1) places ls
+listed_from at places (l ∷ ls) =
+    if is_listed places at then l ∷ listed_from (at + 1) places ls
+    else listed_from (at + 1) places ls
 
 abbrev pub unlisted_from : ℕ → List ℕ → List (List ℕ) → List (List ℕ)
 unlisted_from at places [] = []
-unlisted_from at places (l ∷ ls) = if is_listed places at then unlisted_from (at + 1) places ls else l ∷ unlisted_from (at + 1) places ls
+unlisted_from at places (l ∷ ls) =
+    if is_listed places at then unlisted_from (at + 1) places ls
+    else l ∷ unlisted_from (at + 1) places ls
 
 -- the lines at the listed places, counted from 0, in order
 abbrev pub lines_at : List ℕ → List (List ℕ) → List (List ℕ)
