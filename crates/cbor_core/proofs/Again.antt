@@ -15,7 +15,7 @@ use Rattle.cbor_core.proofs.Arguments.{argument_again, head_first}
 use Rattle.cbor_core.proofs.Keys.{Fresh, fresh_after, fresh_at_first}
 use Rattle.cbor_core.proofs.Steps.{item_as_list, item_as_map, item_as_flat}
 
-string_again : (total major : ℕ) (content rest : List ℕ) → length content < 2 ^ 64 → string_at total ((head_of major (length content) ++ content) ++ rest) ≡ Ok (content, rest)
+pub string_again : (total major : ℕ) (content rest : List ℕ) → length content < 2 ^ 64 → string_at total ((head_of major (length content) ++ content) ++ rest) ≡ Ok (content, rest)
 unfolding string_at
 string_again total major content rest lt =
     let long : ltb (length (content ++ rest)) (length content) ≡ false = le-ltb _ _ (omega (arith, length-append content rest)) in

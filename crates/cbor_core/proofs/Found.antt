@@ -20,12 +20,12 @@ use Rattle.cbor_core.proofs.Keys.{has, Fresh, fresh_before}
 
 -- ---- strings
 
-record Str (bytes content rest : List ℕ) : Type 0 where
-  spelled : IsString (get_or bytes 0 0 / 32) content (head_of (get_or bytes 0 0 / 32) (length content) ++ content)
-  parts : bytes ≡ (head_of (get_or bytes 0 0 / 32) (length content) ++ content) ++ rest
+pub record Str (bytes content rest : List ℕ) : Type 0 where
+  pub spelled : IsString (get_or bytes 0 0 / 32) content (head_of (get_or bytes 0 0 / 32) (length content) ++ content)
+  pub parts : bytes ≡ (head_of (get_or bytes 0 0 / 32) (length content) ++ content) ++ rest
   fits : IsBytes rest
 
-string_takes : (total : ℕ) (bytes content rest : List ℕ) → IsBytes bytes → string_at total bytes ≡ Ok (content, rest) → Str bytes content rest
+pub string_takes : (total : ℕ) (bytes content rest : List ℕ) → IsBytes bytes → string_at total bytes ≡ Ok (content, rest) → Str bytes content rest
 unfolding string_at
 string_takes total bytes content rest h e =
     let a = went_on (argument_at total bytes) (λ n. cond (ltb (length n.1) n.0) (Err (f.Truncated total)) (Ok (take n.0 n.1, drop n.0 n.1))) (content, rest) e in

@@ -1,5 +1,5 @@
--- Reading from left to right, with the first refusal that is met. A place is a number of bytes from the
--- start of an input of `total` bytes; `left` is how many items may still begin.
+-- Reading from left to right, with the first refusal that is met. A place is a number of bytes from
+-- the start of an input of `total` bytes; `left` is how many items may still begin.
 use Rattle.std.specs.Prelude.{ℕ, Bool, true, false, zero, suc, ◌-◌, ◌/◌, ◌%◌, ◌^◌, List, [], ◌∷◌, ◌++◌, length, take, drop, is_some, Result, Ok, Err, nat_lt, ◌==◌, if◌then◌else◌}
 use Rattle.std.specs.Int.{Width, w16, w32, w64, byte_len, from_be_bytes}
 use Rattle.std.specs.Ordering.{nat_cmp}
@@ -40,8 +40,8 @@ wide_at total at w least bytes =
     else if nat_lt (from_be_bytes w (take (byte_len w) bytes)) least then Err (NotShortest at)
     else Ok (from_be_bytes w (take (byte_len w) bytes), drop (byte_len w) bytes)
 
--- The argument of the head that the bytes begin with. A code of 28 to 31 is known to be refused from the
--- first byte, a longer argument than it needs only from its last.
+-- The argument of the head that the bytes begin with. A code of 28 to 31 is known to be refused from
+-- the first byte, a longer argument than it needs only from its last.
 unfoldable pub argument_at : ℕ → List ℕ → Result (ℕ × List ℕ) CborFault
 argument_at total [] = Err (Truncated total)
 argument_at total (b ∷ bytes) =
@@ -79,7 +79,8 @@ text_string_at total left bytes = do
   if is_utf8 s.0 then Ok (v.Text s.0, left, s.1) else Err (Forbidden (start_of total bytes))
 
 -- so many items behind those that are done
-unfoldable pub items_at : Reader → List Item → ℕ → ℕ → List ℕ → Result (List Item × ℕ × List ℕ) CborFault
+unfoldable pub items_at : Reader → List Item → ℕ → ℕ → List ℕ
+    → Result (List Item × ℕ × List ℕ) CborFault
 items_at inner done zero left bytes = Ok (done, left, bytes)
 items_at inner done (suc n) left bytes = do
   x ← inner left bytes
@@ -99,12 +100,16 @@ key_at total left (b ∷ bytes) =
     else if b / 32 == 0 then argument_at total (b ∷ bytes)
     else Err (Forbidden (start_of total (b ∷ bytes)))
 
--- so many entries of a map behind those that are done; a key is refused as repeated before its value is read
-unfoldable pub entries_at : ℕ → Reader → List (ℕ × Item) → ℕ → ℕ → List ℕ → Result (List (ℕ × Item) × ℕ × List ℕ) CborFault
+-- so many entries of a map behind those that are done; a key is refused as repeated before its value
+-- is read
+unfoldable pub entries_at : ℕ → Reader → List (ℕ × Item) → ℕ → ℕ → List ℕ
+    → Result (List (ℕ × Item) × ℕ × List ℕ) CborFault
 entries_at total inner done zero left bytes = Ok (done, left, bytes)
 entries_at total inner done (suc n) left bytes = do
   k ← key_at total left bytes
-  if is_some (lookup (is_at (nat_cmp k.0)) done) then Err (RepeatedKey (start_of total bytes)) else (inner (left - 1) k.1 >>= λ x. entries_at total inner (insert_entry nat_cmp done k.0 x.0) n x.1 x.2)
+  if is_some (lookup (is_at (nat_cmp k.0)) done) then Err (RepeatedKey (start_of total bytes))
+      else (inner (left - 1) k.1
+      >>= λ x. entries_at total inner (insert_entry nat_cmp done k.0 x.0) n x.1 x.2)
 
 unfoldable pub map_at : ℕ → Reader → Reader
 map_at total inner left bytes = do
@@ -120,11 +125,12 @@ flat_at total major left bytes =
     else if major == 3 then text_string_at total left bytes
     else Err (Forbidden (start_of total bytes))
 
--- The item that the bytes begin with, where lists and maps may nest so many levels deep. Its beginning is
--- counted where its first byte is there, before anything is said of this byte.
+-- The item that the bytes begin with, where lists and maps may nest so many levels deep. Its beginning
+-- is counted where its first byte is there, before anything is said of this byte.
 unfoldable pub item_at : ℕ → ℕ → Reader
 item_at total levels left [] = Err (Truncated total)
-item_at total zero left (b ∷ bytes) = if left == 0 then Err TooMany else flat_at total (b / 32) (left - 1) (b ∷ bytes)
+item_at total zero left (b ∷ bytes) =
+    if left == 0 then Err TooMany else flat_at total (b / 32) (left - 1) (b ∷ bytes)
 item_at total (suc levels) left (b ∷ bytes) =
     if left == 0 then Err TooMany
     else if b / 32 == 4 then list_at total (item_at total levels) (left - 1) (b ∷ bytes)

@@ -37,7 +37,7 @@ abbrev pub RefusesWidth : Width → ℕ → ℕ → List ℕ → CborFault → T
 RefusesWidth w least at bytes fault =
     ((length bytes < byte_len w) × (fault ≡ Truncated (suc at + length bytes)))
     ⊎ ((byte_len w ≤ length bytes) × (from_be_bytes w (take (byte_len w) bytes) < least)
-        × (fault ≡ NotShortest at))
+    × (fault ≡ NotShortest at))
 
 -- The argument behind a first byte at `at` is refused. The five low bits of that byte are the argument
 -- below 24, and 24 to 27 say how wide it is (RFC 8949, 3); its least value is 4.2.1's.
@@ -62,8 +62,8 @@ RefusesHead may left at (b ∷ bytes) fault =
 
 -- the major types of an item: lists and maps only where they may nest so deep
 abbrev pub is_item : ℕ → ℕ → Bool
-is_item levels major = (major == 0) || (major == 2) || (major == 3)
-    || (nat_lt 0 levels && ((major == 4) || (major == 5)))
+is_item levels major = (major == 0) || ((major == 2) || ((major == 3)
+    || (nat_lt 0 levels && ((major == 4) || (major == 5)))))
 
 -- the major type of a key
 abbrev pub is_key : ℕ → Bool
@@ -80,20 +80,20 @@ IsBehindHead major argument rest back =
 abbrev pub RefusesString : ℕ → Rest → CborFault → Type 0
 RefusesString major rest fault =
     (n : ℕ) × (back : Rest) × IsBehindHead major n rest back × (length back.bytes < n)
-        × IsTruncated back fault
+    × IsTruncated back fault
 
 -- a text is all there, and not UTF-8
 abbrev pub RefusesText : Rest → CborFault → Type 0
 RefusesText rest fault =
     (content front : List ℕ) × (back : Rest) × IsString 3 content front × IsBehind rest 1 front back
-        × (IsUtf8 content → ⊥) × (fault ≡ Forbidden rest.at)
+    × (IsUtf8 content → ⊥) × (fault ≡ Forbidden rest.at)
 
 -- Below, `Refuses` is what refuses an item inside a list or map, and `spells` what spells one.
 -- So many items are to come: some are there, fewer than these, and the next is refused.
 abbrev pub RefusesEach : (Rest → CborFault → Type 0) → (Item → ℕ → List ℕ → Type 0) → ℕ → Rest → CborFault → Type 0
 RefusesEach Refuses spells n rest fault =
     (items : List Item) × (count : ℕ) × (front : List ℕ) × (back : Rest) × (length items < n)
-        × EncodesEach spells items count front × IsBehind rest count front back × Refuses back fault
+    × EncodesEach spells items count front × IsBehind rest count front back × Refuses back fault
 
 -- none of the entries has the key
 abbrev pub LacksKey : ℕ → List (ℕ × Item) → Type 0
@@ -104,22 +104,22 @@ abbrev pub RefusesEntry : (Rest → CborFault → Type 0) → List (ℕ × Item)
 RefusesEntry Refuses entries rest fault =
     RefusesHead is_key rest.left rest.at rest.bytes fault
     ⊎ ((key : ℕ) × (back : Rest) × IsBehindHead 0 key rest back
-        × (((LacksKey key entries → ⊥) × (fault ≡ RepeatedKey rest.at))
-            ⊎ (LacksKey key entries × Refuses back fault)))
+    × (((LacksKey key entries → ⊥) × (fault ≡ RepeatedKey rest.at))
+    ⊎ (LacksKey key entries × Refuses back fault)))
 
 -- So many entries are to come: some are there, with keys that differ, and the next is refused.
 abbrev pub RefusesEntries : (Rest → CborFault → Type 0) → (Item → ℕ → List ℕ → Type 0) → ℕ → Rest → CborFault → Type 0
 RefusesEntries Refuses spells n rest fault =
     (entries : List (ℕ × Item)) × (count : ℕ) × (front : List ℕ) × (back : Rest)
-        × (length entries < n) × KeysDiffer entries × EncodesEntries spells entries count front
-        × IsBehind rest count front back × RefusesEntry Refuses entries back fault
+    × (length entries < n) × KeysDiffer entries × EncodesEntries spells entries count front
+    × IsBehind rest count front back × RefusesEntry Refuses entries back fault
 
 -- something in a list or a map is refused
 abbrev pub RefusesInside : (Rest → CborFault → Type 0) → (Item → ℕ → List ℕ → Type 0) → Rest → CborFault → Type 0
 RefusesInside Refuses spells rest fault =
     (n : ℕ) × (back : Rest)
-        × ((IsBehindHead 4 n rest back × RefusesEach Refuses spells n back fault)
-            ⊎ (IsBehindHead 5 n rest back × RefusesEntries Refuses spells n back fault))
+    × ((IsBehindHead 4 n rest back × RefusesEach Refuses spells n back fault)
+    ⊎ (IsBehindHead 5 n rest back × RefusesEntries Refuses spells n back fault))
 
 -- what begins as an item that holds no others is refused behind its head
 abbrev pub RefusesFlat : Rest → CborFault → Type 0
@@ -142,8 +142,8 @@ input_of bytes = record { left = 100000; at = 0; bytes = bytes }
 abbrev pub IsTrailing : List ℕ → CborFault → Type 0
 IsTrailing bytes fault =
     (item : Item) × (count : ℕ) × (front back : List ℕ) × (count ≤ 100000)
-        × Encodes 4 item count front × (bytes ≡ front ++ back) × (0 < length back)
-        × (fault ≡ Trailing (length front))
+    × Encodes 4 item count front × (bytes ≡ front ++ back) × (0 < length back)
+    × (fault ≡ Trailing (length front))
 
 -- The input is refused with this fault.
 abbrev pub IsRefused : List ℕ → CborFault → Type 0

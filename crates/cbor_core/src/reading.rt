@@ -1,3 +1,5 @@
+//! The heads, strings and keys that bytes begin with.
+
 ghost use Rattle.std.specs.Prelude.{◌≡◌, ◌^◌};
 ghost use Rattle.std.specs.Int.{w16, w32, w64};
 ghost use Rattle.cbor_core.specs.Internal.Results.{Gives};
@@ -26,7 +28,8 @@ fn read_byte(total: usize, at: u64, bytes: &[u8]) -> Result<(u64, &[u8]), CborFa
 }
 
 fn read_two(total: usize, at: u64, bytes: &[u8]) -> Result<(u64, &[u8]), CborFault>
-    ensures { Gives is_memory (λ x. (x.0, x.1.now)) result (wide_at total at w16 (2 ^ 8) bytes.now) }
+    ensures { Gives is_memory (λ x. (x.0, x.1.now)) result
+        (wide_at total at w16 (2 ^ 8) bytes.now) }
 {
     if bytes.len() < 2 {
         return Err(CborFault::Truncated(total as u64));
@@ -40,7 +43,8 @@ fn read_two(total: usize, at: u64, bytes: &[u8]) -> Result<(u64, &[u8]), CborFau
 }
 
 fn read_four(total: usize, at: u64, bytes: &[u8]) -> Result<(u64, &[u8]), CborFault>
-    ensures { Gives is_memory (λ x. (x.0, x.1.now)) result (wide_at total at w32 (2 ^ 16) bytes.now) }
+    ensures { Gives is_memory (λ x. (x.0, x.1.now)) result
+        (wide_at total at w32 (2 ^ 16) bytes.now) }
 {
     if bytes.len() < 4 {
         return Err(CborFault::Truncated(total as u64));
@@ -54,7 +58,8 @@ fn read_four(total: usize, at: u64, bytes: &[u8]) -> Result<(u64, &[u8]), CborFa
 }
 
 fn read_eight(total: usize, at: u64, bytes: &[u8]) -> Result<(u64, &[u8]), CborFault>
-    ensures { Gives is_memory (λ x. (x.0, x.1.now)) result (wide_at total at w64 (2 ^ 32) bytes.now) }
+    ensures { Gives is_memory (λ x. (x.0, x.1.now)) result
+        (wide_at total at w64 (2 ^ 32) bytes.now) }
 {
     if bytes.len() < 8 {
         return Err(CborFault::Truncated(total as u64));
@@ -133,7 +138,8 @@ pub fn read_text(
     left: u32,
     bytes: &[u8],
 ) -> Result<(Item, u32, &[u8]), CborFault>
-    ensures { Gives is_memory (λ x. (x.0, x.1, x.2.now)) result (text_string_at total left bytes.now) }
+    ensures { Gives is_memory (λ x. (x.0, x.1, x.2.now)) result
+        (text_string_at total left bytes.now) }
 {
     let (content, rest) = read_string(total, bytes)?;
     let Ok(text) = str::from_utf8(content) else {

@@ -89,7 +89,8 @@ one_of kind size at n x = do
   if size y == n then Ok y else Err (fault.Length at)
 
 -- such ones behind those that are done, the first other one refused
-unfoldable pub ones_from : {X Y : Type 0} → (X → Option Y) → (Y → ℕ) → Part → ℕ → List Y → List X → Result (List Y) ValueFault
+unfoldable pub ones_from : {X Y : Type 0} → (X → Option Y) → (Y → ℕ) → Part → ℕ → List Y → List X
+    → Result (List Y) ValueFault
 ones_from kind size at n done [] = Ok done
 ones_from kind size at n done (x ∷ xs) = do
   y ← one_of kind size at n x
@@ -100,7 +101,8 @@ abbrev pub of_size : {Y : Type 0} → (Y → ℕ) → Part → ℕ → List Y �
 of_size size at n ys = if list_all (λ y. size y == n) ys then Ok ys else Err (fault.Length at)
 
 -- each is of the kind, and then each is of this size
-abbrev pub ones_of : {X Y : Type 0} → (X → Option Y) → (Y → ℕ) → Part → ℕ → List X → Result (List Y) ValueFault
+abbrev pub ones_of : {X Y : Type 0} → (X → Option Y) → (Y → ℕ) → Part → ℕ → List X
+    → Result (List Y) ValueFault
 ones_of kind size at n xs = do
   ys ← ok_or (each_is kind xs) (fault.Shape at)
   of_size size at n ys
@@ -144,7 +146,8 @@ five_items (a ∷ b ∷ c ∷ d ∷ e ∷ []) = Some (a, b, c, d, e)
 five_items other = None
 
 abbrev pub five_parts : Item → Result Five ValueFault
-five_parts item = ok_or (option_and_then five_items (list_level (out-Item item))) (fault.Shape part.Array)
+five_parts item =
+    ok_or (option_and_then five_items (list_level (out-Item item))) (fault.Shape part.Array)
 
 unfoldable pub base_of : Item → Result BaseValue ValueFault
 base_of item = do
@@ -154,7 +157,13 @@ base_of item = do
   secret ← blob_of part.HmacKey 32 five.2
   signatures ← blobs_of part.Signatures 64 five.3
   pointers ← texts_of part.Pointers five.4
-  Ok (record { signature = signature; key = key; secret = secret; signatures = signatures; pointers = pointers })
+  Ok (record {
+    signature = signature;
+    key = key;
+    secret = secret;
+    signatures = signatures;
+    pointers = pointers;
+  })
 
 unfoldable pub derived_of : Item → Result DerivedValue ValueFault
 derived_of item = do
@@ -164,7 +173,13 @@ derived_of item = do
   signatures ← blobs_of part.Signatures 64 five.2
   labels ← label_entries_of part.LabelMap 32 five.3
   indexes ← wholes_of part.Indexes five.4
-  if rise indexes then Ok (record { signature = signature; key = key; signatures = signatures; labels = labels; indexes = indexes }) else Err fault.Indexes
+  if rise indexes then Ok (record {
+    signature = signature;
+    key = key;
+    signatures = signatures;
+    labels = labels;
+    indexes = indexes;
+  }) else Err fault.Indexes
 
 -- bytes that base64url gave, if it did
 abbrev pub base64_result : Result (List ℕ) DecodeError → Result (List ℕ) ValueFault
@@ -174,7 +189,8 @@ base64_result (Err e) = Err fault.NotMultibase
 -- the bytes of a text that begins with `u`
 abbrev pub multibase_bytes : List ℕ → Result (List ℕ) ValueFault
 multibase_bytes [] = Err fault.NotMultibase
-multibase_bytes (c ∷ text) = if c == 117 then base64_result (decode_of url_safe_no_pad text) else Err fault.NotMultibase
+multibase_bytes (c ∷ text) =
+    if c == 117 then base64_result (decode_of url_safe_no_pad text) else Err fault.NotMultibase
 
 -- what follows the three bytes of a header
 abbrev pub behind : List ℕ → List ℕ → Result (List ℕ) ValueFault

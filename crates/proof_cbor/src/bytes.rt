@@ -1,3 +1,5 @@
+//! The bytes of a text, and the item behind a header.
+
 ghost use Rattle.std.specs.Prelude.{◌≡◌, IfOk};
 ghost use Rattle.proof_cbor.specs.Values.{IsText};
 ghost use Rattle.cbor_core.specs.Internal.Results.{Gives};

@@ -1,3 +1,5 @@
+//! Reading proof values (Data Integrity ECDSA Cryptosuites 1.0, 3.5.3 and 3.5.8).
+
 ghost use Rattle.std.specs.Prelude.{◌≡◌, ◌≤◌, true, map, IfOk, Ok};
 ghost use Rattle.cbor_core.specs.Writing.{count_of};
 ghost use Rattle.base_types.specs.Order.{rise};
@@ -89,7 +91,8 @@ pub fn decode_base(alloc: Global, text: &str) -> Result<BaseValue, ValueFault>
     // It may be written: it keeps the limit on items.
     ensures count { IfOk result (λ value. count_of (base_item value) ≤ 100000) }
     // What is spelled within the limits is read, unless memory runs out.
-    ensures only { (value : BaseValue) → SpellsBase value text.now → Gives is_memory (λ x. x) result (Ok value) }
+    ensures only { (value : BaseValue) → SpellsBase value text.now
+        → Gives is_memory (λ x. x) result (Ok value) }
     // Which value, or which refusal, it is.
     ensures exact { Gives is_memory (λ x. x) result (reading_base text.now) }
 {
@@ -103,11 +106,13 @@ pub fn decode_derived(alloc: Global, text: &str) -> Result<DerivedValue, ValueFa
     // What is read is spelled by the text, all of it.
     ensures found { IfOk result (λ value. SpellsDerived value text.now) }
     // It may be written: its labels and its indexes rise, and it keeps the limit on items.
-    ensures labels { IfOk result (λ value. rise (map (λ (e : MapEntry). e.number) value.labels) ≡ true) }
+    ensures labels { IfOk result
+        (λ value. rise (map (λ (e : MapEntry). e.number) value.labels) ≡ true) }
     ensures indexes { IfOk result (λ value. rise value.indexes ≡ true) }
     ensures count { IfOk result (λ value. count_of (derived_item value) ≤ 100000) }
     // What is spelled within the limits is read, unless memory runs out.
-    ensures only { (value : DerivedValue) → SpellsDerived value text.now → Gives is_memory (λ x. x) result (Ok value) }
+    ensures only { (value : DerivedValue) → SpellsDerived value text.now
+        → Gives is_memory (λ x. x) result (Ok value) }
     // Which value, or which refusal, it is.
     ensures exact { Gives is_memory (λ x. x) result (reading_derived text.now) }
 {

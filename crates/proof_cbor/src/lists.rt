@@ -1,3 +1,5 @@
+//! The parts that are lists and maps.
+
 ghost use Rattle.std.specs.Prelude.{◌≡◌, [], is_some, length};
 ghost use Rattle.std.specs.Option.{ok_or};
 ghost use Rattle.proof_cbor.specs.declared.fault.ValueFault.TheVariants.{Shape};
@@ -112,7 +114,8 @@ fn are_entries(pairs: &[Pair]) -> bool
 }
 
 fn entries(alloc: Global, part: Part, pairs: &[Pair]) -> Result<Sequence<MapEntry>, ValueFault>
-    ensures { Gives is_memory (λ x. x) result (ones_from entry_kind digest_size part 32 [] pairs.now) }
+    ensures { Gives is_memory (λ x. x) result
+        (ones_from entry_kind digest_size part 32 [] pairs.now) }
 {
     let mut entries = Sequence::new(alloc);
     for pair in pairs {

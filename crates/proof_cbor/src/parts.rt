@@ -1,3 +1,5 @@
+//! The five parts, and those of a fixed length.
+
 ghost use Rattle.std.specs.Prelude.{◌≡◌, ◌∷◌};
 ghost use Rattle.base_types.specs.Order.{rise};
 ghost use Rattle.cbor_core.specs.Internal.Results.{Gives};
@@ -74,7 +76,8 @@ pub fn entry_in(part: Part, pair: &Pair) -> Result<MapEntry, ValueFault>
 /// The five parts of a value.
 #[tactic(auto, using(crate::proofs::Five::five_steps))]
 pub fn five_in(item: &Item) -> Result<(&Item, &Item, &Item, &Item, &Item), ValueFault>
-    ensures { Gives is_memory (λ x. (x.0.now, x.1.now, x.2.now, x.3.now, x.4.now)) result (five_parts item.now) }
+    ensures { Gives is_memory (λ x. (x.0.now, x.1.now, x.2.now, x.3.now, x.4.now)) result
+        (five_parts item.now) }
 {
     let Some(items) = list_in(item) else {
         return Err(ValueFault::Shape(Part::Array));
