@@ -10,12 +10,12 @@ use Rattle.std.proofs.lemmas.List.{take_at, drop_at, length-append, append-nil}
 use Rattle.cbor_core.specs.declared.item.Item.{Item}
 use Rattle.cbor_core.specs.declared.item.Item.TheVariants as v
 use Rattle.cbor_core.specs.Grammar.{head_of, IsHead, EncodesFlat, EncodesEach, EncodesEntries, EncodesList, EncodesMap, Encodes, KeysDiffer, put_all}
-use Rattle.cbor_core.specs.Reading.{Reader, argument_at, string_at, whole_at, blob_at, text_at, flat_at, items_at, list_at, key_at, entries_at, map_at, item_at}
+use Rattle.cbor_core.specs.Reading.{Reader, argument_at, string_at, whole_at, blob_at, text_string_at, flat_at, items_at, list_at, key_at, entries_at, map_at, item_at}
 use Rattle.cbor_core.proofs.Arguments.{argument_again, head_first}
 use Rattle.cbor_core.proofs.Keys.{Fresh, fresh_after, fresh_at_first}
 use Rattle.cbor_core.proofs.Steps.{item_as_list, item_as_map, item_as_flat}
 
-string_again : (total major : ℕ) (content rest : List ℕ) → length content < 2 ^ 64 → string_at total ((head_of major (length content) ++ content) ++ rest) ≡ Ok (content, rest)
+pub string_again : (total major : ℕ) (content rest : List ℕ) → length content < 2 ^ 64 → string_at total ((head_of major (length content) ++ content) ++ rest) ≡ Ok (content, rest)
 unfolding string_at
 string_again total major content rest lt =
     let long : ltb (length (content ++ rest)) (length content) ≡ false = le-ltb _ _ (omega (arith, length-append content rest)) in
@@ -41,7 +41,7 @@ unfolding flat_at blob_at
 flat_blob total left content rest lt = rw (string_again total 2 content rest lt) refl
 
 flat_text : (total left : ℕ) (content rest : List ℕ) → IsUtf8 content → length content < 2 ^ 64 → flat_at total 3 left ((head_of 3 (length content) ++ content) ++ rest) ≡ Ok (v.Text content, left, rest)
-unfolding flat_at text_at
+unfolding flat_at text_string_at
 flat_text total left content rest u lt = rw (string_again total 3 content rest lt, is_utf8-from_IsUtf8 content u) refl
 
 -- the first byte of a string

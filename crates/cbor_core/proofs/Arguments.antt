@@ -8,7 +8,8 @@ use Rattle.std.proofs.lemmas.Nat.{be_bytes_2, be_bytes_4, be_bytes_8, from_be_by
 use Rattle.cbor_core.specs.declared.fault.CborFault.{CborFault}
 use Rattle.cbor_core.specs.declared.fault.CborFault.TheVariants as f
 use Rattle.cbor_core.specs.Grammar.{head_of}
-use Rattle.cbor_core.specs.Reading.{◌>>=◌, place_of, byte_at, wide_at, argument_at}
+use Rattle.cbor_core.specs.Reading.{start_of, byte_at, wide_at, argument_at}
+use Rattle.cbor_core.proofs.Outcomes.{same_ok, took, passed}
 
 abbrev pub IsBytes : List ℕ → Type 0
 IsBytes bytes = (i : ℕ) → get_or bytes i 0 < 256
@@ -24,29 +25,6 @@ IsBytes-take n bytes h i = elim (cases_lt i n) [
   | inl lt ↦ rw (get_or-take n bytes i 0 lt) (h i)
   | inr le ↦ rw (get_or_past (take n bytes) i 0 (omega (arith, length-take n bytes))) (omega arith)
 ]
-
--- ---- results
-
--- which branch a test took
-pub took : {A : Type 0} (b : Bool) (x y z : A) → cond b x y ≡ z → ((b ≡ true) × (x ≡ z)) ⊎ ((b ≡ false) × (y ≡ z))
-took true x y z e = inl (refl, e)
-took false x y z e = inr (refl, e)
-
--- a test that refuses where it is true, and did not
-pub passed : {A : Type 0} (b : Bool) (d : CborFault) (r : Result A CborFault) (z : A) → cond b (Err d) r ≡ Ok z → (b ≡ false) × (r ≡ Ok z)
-passed true d r z e = absurd cc
-passed false d r z e = (refl, e)
-
--- a step that did not fail
-pub went_on : {A B : Type 0} (r : Result A CborFault) (g : A → Result B CborFault) (y : B) → (r >>= g) ≡ Ok y → (x : A) × (r ≡ Ok x) × (g x ≡ Ok y)
-went_on (Ok x) g y e = (x, refl, e)
-went_on (Err d) g y e = absurd cc
-
-abbrev good : {A : Type 0} → A → Result A CborFault
-good x = Ok x
-
-pub same_ok : {A : Type 0} (x y : A) → good x ≡ good y → x ≡ y
-same_ok x y e = cc
 
 -- ---- the five forms of a head
 
@@ -138,7 +116,7 @@ pub argument_takes : (total : ℕ) (bytes : List ℕ) (n : ℕ) (rest : List ℕ
 unfolding argument_at
 argument_takes total [] n rest h e = absurd cc
 argument_takes total (b ∷ bytes) n rest h e =
-    let at = place_of total (b ∷ bytes) in
+    let at = start_of total (b ∷ bytes) in
     let tail : IsBytes bytes = IsBytes-tail b bytes h in
     let byte : Result (ℕ × List ℕ) CborFault = byte_at total at bytes in
     let two : Result (ℕ × List ℕ) CborFault = wide_at total at w16 (2 ^ 8) bytes in

@@ -12,18 +12,20 @@ use Rattle.cbor_core.specs.declared.fault.CborFault.TheVariants as f
 use Rattle.cbor_core.specs.declared.item.Item.{Item}
 use Rattle.cbor_core.specs.declared.item.Item.TheVariants as v
 use Rattle.cbor_core.specs.Grammar.{head_of, IsHead, IsString, EncodesFlat, EncodesEach, EncodesEntries, EncodesList, EncodesMap, Encodes, KeysDiffer, put_all, pairs_of}
-use Rattle.cbor_core.specs.Reading.{◌>>=◌, Reader, place_of, argument_at, string_at, whole_at, blob_at, text_at, flat_at, items_at, list_at, key_at, entries_at, map_at, item_at}
-use Rattle.cbor_core.proofs.Arguments.{IsBytes, IsBytes-drop, took, passed, went_on, same_ok, argument_takes}
+use Rattle.cbor_core.specs.Internal.Results.{◌>>=◌}
+use Rattle.cbor_core.specs.Reading.{Reader, start_of, argument_at, string_at, whole_at, blob_at, text_string_at, flat_at, items_at, list_at, key_at, entries_at, map_at, item_at}
+use Rattle.cbor_core.proofs.Arguments.{IsBytes, IsBytes-drop, argument_takes}
+use Rattle.cbor_core.proofs.Outcomes.{same_ok, took, passed, passed_true, went_on}
 use Rattle.cbor_core.proofs.Keys.{has, Fresh, fresh_before}
 
 -- ---- strings
 
-record Str (bytes content rest : List ℕ) : Type 0 where
-  spelled : IsString (get_or bytes 0 0 / 32) content (head_of (get_or bytes 0 0 / 32) (length content) ++ content)
-  parts : bytes ≡ (head_of (get_or bytes 0 0 / 32) (length content) ++ content) ++ rest
+pub record Str (bytes content rest : List ℕ) : Type 0 where
+  pub spelled : IsString (get_or bytes 0 0 / 32) content (head_of (get_or bytes 0 0 / 32) (length content) ++ content)
+  pub parts : bytes ≡ (head_of (get_or bytes 0 0 / 32) (length content) ++ content) ++ rest
   fits : IsBytes rest
 
-string_takes : (total : ℕ) (bytes content rest : List ℕ) → IsBytes bytes → string_at total bytes ≡ Ok (content, rest) → Str bytes content rest
+pub string_takes : (total : ℕ) (bytes content rest : List ℕ) → IsBytes bytes → string_at total bytes ≡ Ok (content, rest) → Str bytes content rest
 unfolding string_at
 string_takes total bytes content rest h e =
     let a = went_on (argument_at total bytes) (λ n. cond (ltb (length n.1) n.0) (Err (f.Truncated total)) (Ok (take n.0 n.1, drop n.0 n.1))) (content, rest) e in
@@ -67,16 +69,12 @@ blob_takes total left bytes item after rest m h e =
     subst (λ (q : Item × ℕ × List ℕ). Flat left bytes q.0 q.1 q.2) (same_ok (v.Blob a.0.0, left, a.0.1) (item, after, rest) a.2)
     (record { text = text; spelled = inr (inl (a.0.0, refl, (t.spelled.0, refl))); parts = parts; same = refl; fits = t.fits })
 
-passed_true : {A : Type 0} (b : Bool) (d : CborFault) (r : Result A CborFault) (z : A) → cond b r (Err d) ≡ Ok z → (b ≡ true) × (r ≡ Ok z)
-passed_true true d r z e = (refl, e)
-passed_true false d r z e = absurd cc
-
-text_takes : (total left : ℕ) (bytes : List ℕ) (item : Item) (after : ℕ) (rest : List ℕ) → get_or bytes 0 0 / 32 ≡ 3 → IsBytes bytes → text_at total left bytes ≡ Ok (item, after, rest) → Flat left bytes item after rest
-unfolding text_at
+text_takes : (total left : ℕ) (bytes : List ℕ) (item : Item) (after : ℕ) (rest : List ℕ) → get_or bytes 0 0 / 32 ≡ 3 → IsBytes bytes → text_string_at total left bytes ≡ Ok (item, after, rest) → Flat left bytes item after rest
+unfolding text_string_at
 text_takes total left bytes item after rest m h e =
-    let a = went_on (string_at total bytes) (λ s. cond (is_utf8 s.0) (Ok (v.Text s.0, left, s.1)) (Err (f.Forbidden (place_of total bytes)))) (item, after, rest) e in
+    let a = went_on (string_at total bytes) (λ s. cond (is_utf8 s.0) (Ok (v.Text s.0, left, s.1)) (Err (f.Forbidden (start_of total bytes)))) (item, after, rest) e in
     let t = string_takes total bytes a.0.0 a.0.1 h a.1 in
-    let p = passed_true (is_utf8 a.0.0) (f.Forbidden (place_of total bytes)) (Ok (v.Text a.0.0, left, a.0.1)) (item, after, rest) a.2 in
+    let p = passed_true (is_utf8 a.0.0) (f.Forbidden (start_of total bytes)) (Ok (v.Text a.0.0, left, a.0.1)) (item, after, rest) a.2 in
     let text = head_of 3 (length a.0.0) ++ a.0.0 in
     let parts : bytes ≡ text ++ a.0.1 = subst (λ (k : ℕ). bytes ≡ (head_of k (length a.0.0) ++ a.0.0) ++ a.0.1) m t.parts in
     subst (λ (q : Item × ℕ × List ℕ). Flat left bytes q.0 q.1 q.2) (same_ok (v.Text a.0.0, left, a.0.1) (item, after, rest) p.1)
@@ -86,12 +84,12 @@ flat_takes : (total left : ℕ) (bytes : List ℕ) (item : Item) (after : ℕ) (
 unfolding flat_at
 flat_takes total left bytes item after rest h e =
     let m = get_or bytes 0 0 / 32 in
-    let other : Result (Item × ℕ × List ℕ) CborFault = Err (f.Forbidden (place_of total bytes)) in
-    elim (took (eqb m 0) (whole_at total left bytes) (cond (eqb m 2) (blob_at total left bytes) (cond (eqb m 3) (text_at total left bytes) other)) (Ok (item, after, rest)) e) [
+    let other : Result (Item × ℕ × List ℕ) CborFault = Err (f.Forbidden (start_of total bytes)) in
+    elim (took (eqb m 0) (whole_at total left bytes) (cond (eqb m 2) (blob_at total left bytes) (cond (eqb m 3) (text_string_at total left bytes) other)) (Ok (item, after, rest)) e) [
       | inl p ↦ whole_takes total left bytes item after rest (eqb-true m 0 p.0) h p.1
-      | inr p ↦ elim (took (eqb m 2) (blob_at total left bytes) (cond (eqb m 3) (text_at total left bytes) other) (Ok (item, after, rest)) p.1) [
+      | inr p ↦ elim (took (eqb m 2) (blob_at total left bytes) (cond (eqb m 3) (text_string_at total left bytes) other) (Ok (item, after, rest)) p.1) [
         | inl q ↦ blob_takes total left bytes item after rest (eqb-true m 2 q.0) h q.1
-        | inr q ↦ let r = passed_true (eqb m 3) (f.Forbidden (place_of total bytes)) (text_at total left bytes) (item, after, rest) q.1 in text_takes total left bytes item after rest (eqb-true m 3 r.0) h r.1
+        | inr q ↦ let r = passed_true (eqb m 3) (f.Forbidden (start_of total bytes)) (text_string_at total left bytes) (item, after, rest) q.1 in text_takes total left bytes item after rest (eqb-true m 3 r.0) h r.1
       ]
     ]
 
@@ -183,8 +181,8 @@ module _ (total : ℕ) (inner : Reader) (spells : Item → ℕ → List ℕ → 
   unfolding key_at
   key_takes left [] key rest h e = absurd cc
   key_takes left (b ∷ bytes) key rest h e =
-      let p = passed (eqb left 0) f.TooMany (cond (eqb (b / 32) 0) (argument_at total (b ∷ bytes)) (Err (f.Forbidden (place_of total (b ∷ bytes))))) (key, rest) e in
-      let q = passed_true (eqb (b / 32) 0) (f.Forbidden (place_of total (b ∷ bytes))) (argument_at total (b ∷ bytes)) (key, rest) p.1 in
+      let p = passed (eqb left 0) f.TooMany (cond (eqb (b / 32) 0) (argument_at total (b ∷ bytes)) (Err (f.Forbidden (start_of total (b ∷ bytes))))) (key, rest) e in
+      let q = passed_true (eqb (b / 32) 0) (f.Forbidden (start_of total (b ∷ bytes))) (argument_at total (b ∷ bytes)) (key, rest) p.1 in
       let head = argument_takes total (b ∷ bytes) key rest h q.1 in
       let ne = eqb-false left 0 p.0 in
       let m : b / 32 ≡ 0 = eqb-true (b / 32) 0 q.0 in
@@ -210,10 +208,10 @@ module _ (total : ℕ) (inner : Reader) (spells : Item → ℕ → List ℕ → 
       (record { entries = []; count = 0; text = []; spelled = (refl, refl); number = refl; whole = refl; fresh = tt; differ = tt; parts = refl; spent = omega arith; fits = h })
   entries_take (suc n) done left bytes all after rest h e =
       let value : ℕ × List ℕ → Result (List (ℕ × Item) × ℕ × List ℕ) CborFault = λ k. inner (left - 1) k.1 >>= λ x. entries_at total inner (insert_entry nat_cmp done k.0 x.0) n x.1 x.2 in
-      let a = went_on (key_at total left bytes) (λ k. cond (has k.0 done) (Err (f.RepeatedKey (place_of total bytes))) (value k)) (all, after, rest) e in
+      let a = went_on (key_at total left bytes) (λ k. cond (has k.0 done) (Err (f.RepeatedKey (start_of total bytes))) (value k)) (all, after, rest) e in
       let key = a.0.0 in
       let k = key_takes left bytes key a.0.1 h a.1 in
-      let p = passed (has key done) (f.RepeatedKey (place_of total bytes)) (value a.0) (all, after, rest) a.2 in
+      let p = passed (has key done) (f.RepeatedKey (start_of total bytes)) (value a.0) (all, after, rest) a.2 in
       let b = went_on (inner (left - 1) a.0.1) (λ x. entries_at total inner (insert_entry nat_cmp done key x.0) n x.1 x.2) (all, after, rest) p.1 in
       let x = b.0 in
       let t = takes (left - 1) a.0.1 x.0 x.1 x.2 k.fits b.1 in

@@ -1,3 +1,4 @@
+pub mod Outcomes
 pub mod Steps
 pub mod Arguments
 pub mod Keys
@@ -7,3 +8,4 @@ pub mod Writes
 pub mod Lawful
 pub mod Sorted
 pub mod Whole
+pub mod Refusing

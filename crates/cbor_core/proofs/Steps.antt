@@ -12,7 +12,9 @@ use Rattle.cbor_core.specs.declared.fault.CborFault.TheVariants as f
 use Rattle.cbor_core.specs.declared.item.Item.{Item}
 use Rattle.cbor_core.specs.declared.item.Pair.{Pair}
 use Rattle.cbor_core.specs.Grammar.{pairs_of}
-use Rattle.cbor_core.specs.Reading.{◌>>=◌, Fails, Reader, place_of, items_at, key_at, entries_at, flat_at, list_at, map_at, item_at}
+use Rattle.cbor_core.specs.Internal.Results.{◌>>=◌, Fails}
+use Rattle.cbor_core.proofs.Outcomes.{fails_on}
+use Rattle.cbor_core.specs.Reading.{is_memory, Reader, start_of, items_at, key_at, entries_at, flat_at, list_at, map_at, item_at}
 
 isnt_true : (b : Bool) → (b ≡ true → ⊥) → b ≡ false
 isnt_true true h = absurd (h refl)
@@ -30,17 +32,8 @@ pub ruleset text_steps = (text_refused, is_utf8-from_IsUtf8)
 
 -- ---- a fault goes through what follows
 
-pub fails_on : {A B : Type 0} (e : CborFault) (r : Result A CborFault) (f : A → Result B CborFault) → Fails e r → Fails e (r >>= f)
-fails_on f.Memory r g h = tt
-fails_on (f.Truncated n) r g h = rw h refl
-fails_on (f.NotShortest n) r g h = rw h refl
-fails_on (f.Forbidden n) r g h = rw h refl
-fails_on (f.RepeatedKey n) r g h = rw h refl
-fails_on (f.Trailing n) r g h = rw h refl
-fails_on f.TooMany r g h = rw h refl
-
-fails_same : {A : Type 0} (e : CborFault) (r s : Result A CborFault) → r ≡ s → Fails e r → Fails e s
-fails_same e r s same h = subst (λ x. Fails e x) same h
+fails_same : {A : Type 0} (e : CborFault) (r s : Result A CborFault) → r ≡ s → Fails is_memory e r → Fails is_memory e s
+fails_same e r s same h = subst (λ x. Fails is_memory e x) same h
 
 -- ---- the items of a list
 
@@ -53,12 +46,12 @@ module _ (inner : Reader) (done : List Item) (count i left : ℕ) (bytes : List 
       let one : items_at inner done (count - i) left bytes ≡ items_at inner (done ++ x ∷ []) (count - (i + 1)) after rest = rw (k, h) refl in
       sym one ∙ so_far
 
-  pub items_fail : (e : CborFault) → i < count → Fails e (inner left bytes) → items_at inner done (count - i) left bytes ≡ whole → Fails e whole
+  pub items_fail : (e : CborFault) → i < count → Fails is_memory e (inner left bytes) → items_at inner done (count - i) left bytes ≡ whole → Fails is_memory e whole
   unfolding items_at
   items_fail e lt h so_far =
       let k : count - i ≡ suc (count - (i + 1)) = omega arith in
       let one : items_at inner done (count - i) left bytes ≡ (inner left bytes >>= λ x. items_at inner (done ++ x.0 ∷ []) (count - (i + 1)) x.1 x.2) = rw k refl in
-      fails_same e _ _ (sym one ∙ so_far) (fails_on e (inner left bytes) (λ x. items_at inner (done ++ x.0 ∷ []) (count - (i + 1)) x.1 x.2) h)
+      fails_same e _ _ (sym one ∙ so_far) (fails_on is_memory e (inner left bytes) (λ x. items_at inner (done ++ x.0 ∷ []) (count - (i + 1)) x.1 x.2) h)
 
   pub items_done : count ≤ i → items_at inner done (count - i) left bytes ≡ whole → whole ≡ Ok (done, left, bytes)
   unfolding items_at
@@ -81,30 +74,30 @@ module _ (total : ℕ) (inner : Reader) (done : List (ℕ × Item)) (count i lef
       let one : entries_at total inner done (count - i) left bytes ≡ entries_at total inner (insert_entry nat_cmp done key x) (count - (i + 1)) after rest = rw (n, k, fresh, h) refl in
       sym one ∙ so_far
 
-  pub entries_key_fails : (e : CborFault) → i < count → Fails e (key_at total left bytes) → entries_at total inner done (count - i) left bytes ≡ whole → Fails e whole
+  pub entries_key_fails : (e : CborFault) → i < count → Fails is_memory e (key_at total left bytes) → entries_at total inner done (count - i) left bytes ≡ whole → Fails is_memory e whole
   unfolding entries_at
   entries_key_fails e lt h so_far =
       let n : count - i ≡ suc (count - (i + 1)) = omega arith in
-      let go : ℕ × List ℕ → Result (List (ℕ × Item) × ℕ × List ℕ) CborFault = λ k. cond (is_some (lookup (is_at (nat_cmp k.0)) done)) (Err (f.RepeatedKey (place_of total bytes))) (inner (left - 1) k.1 >>= λ x. entries_at total inner (insert_entry nat_cmp done k.0 x.0) (count - (i + 1)) x.1 x.2) in
+      let go : ℕ × List ℕ → Result (List (ℕ × Item) × ℕ × List ℕ) CborFault = λ k. cond (is_some (lookup (is_at (nat_cmp k.0)) done)) (Err (f.RepeatedKey (start_of total bytes))) (inner (left - 1) k.1 >>= λ x. entries_at total inner (insert_entry nat_cmp done k.0 x.0) (count - (i + 1)) x.1 x.2) in
       let one : entries_at total inner done (count - i) left bytes ≡ (key_at total left bytes >>= go) = rw n refl in
-      fails_same e _ _ (sym one ∙ so_far) (fails_on e (key_at total left bytes) go h)
+      fails_same e _ _ (sym one ∙ so_far) (fails_on is_memory e (key_at total left bytes) go h)
 
   pub entries_repeated : (key : ℕ) (behind : List ℕ) → i < count → key_at total left bytes ≡ Ok (key, behind) → is_some (lookup (is_at (nat_cmp key)) done) ≡ true
-      → entries_at total inner done (count - i) left bytes ≡ whole → whole ≡ Err (f.RepeatedKey (place_of total bytes))
+      → entries_at total inner done (count - i) left bytes ≡ whole → whole ≡ Err (f.RepeatedKey (start_of total bytes))
   unfolding entries_at
   entries_repeated key behind lt k known so_far =
       let n : count - i ≡ suc (count - (i + 1)) = omega arith in
-      let one : entries_at total inner done (count - i) left bytes ≡ Err (f.RepeatedKey (place_of total bytes)) = rw (n, k, known) refl in
+      let one : entries_at total inner done (count - i) left bytes ≡ Err (f.RepeatedKey (start_of total bytes)) = rw (n, k, known) refl in
       sym so_far ∙ one
 
   pub entries_value_fails : (e : CborFault) (key : ℕ) (behind : List ℕ) → i < count → key_at total left bytes ≡ Ok (key, behind) → is_some (lookup (is_at (nat_cmp key)) done) ≡ false
-      → Fails e (inner (left - 1) behind) → entries_at total inner done (count - i) left bytes ≡ whole → Fails e whole
+      → Fails is_memory e (inner (left - 1) behind) → entries_at total inner done (count - i) left bytes ≡ whole → Fails is_memory e whole
   unfolding entries_at
   entries_value_fails e key behind lt k fresh h so_far =
       let n : count - i ≡ suc (count - (i + 1)) = omega arith in
       let go : Item × ℕ × List ℕ → Result (List (ℕ × Item) × ℕ × List ℕ) CborFault = λ x. entries_at total inner (insert_entry nat_cmp done key x.0) (count - (i + 1)) x.1 x.2 in
       let one : entries_at total inner done (count - i) left bytes ≡ (inner (left - 1) behind >>= go) = rw (n, k, fresh) refl in
-      fails_same e _ _ (sym one ∙ so_far) (fails_on e (inner (left - 1) behind) go h)
+      fails_same e _ _ (sym one ∙ so_far) (fails_on is_memory e (inner (left - 1) behind) go h)
 
   pub entries_done : count ≤ i → entries_at total inner done (count - i) left bytes ≡ whole → whole ≡ Ok (done, left, bytes)
   unfolding entries_at

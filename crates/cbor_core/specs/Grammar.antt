@@ -10,8 +10,8 @@ use Rattle.cbor_core.specs.declared.item.Item.{Item}
 use Rattle.cbor_core.specs.declared.item.Item.TheVariants as v
 use Rattle.cbor_core.specs.declared.item.Pair.{Pair}
 
--- The head of an item: the major type in the high three bits of the first byte, and the argument in the
--- low five or in the bytes after it (RFC 8949, 3), in the fewest bytes that hold it (4.2.1).
+-- The head of an item: the major type in the high three bits of the first byte, and the argument in
+-- the low five or in the bytes after it (RFC 8949, 3), in the fewest bytes that hold it (4.2.1).
 unfoldable pub head_of : ℕ → ℕ → List ℕ
 head_of major value =
     if nat_lt value 24 then (major * 32 + value) ∷ []
@@ -24,27 +24,35 @@ head_of major value =
 abbrev pub IsHead : ℕ → ℕ → List ℕ → Type 0
 IsHead major value bytes = (value < 2 ^ 64) × (bytes ≡ head_of major value)
 
--- the bytes are a head, and then this content of as many bytes as the head says (RFC 8949, 3.1, types 2 and 3)
+-- a head, and then this content of as many bytes as it says (RFC 8949, 3.1, types 2 and 3)
 abbrev pub IsString : ℕ → List ℕ → List ℕ → Type 0
-IsString major content bytes = (length content < 2 ^ 64) × (bytes ≡ head_of major (length content) ++ content)
+IsString major content bytes =
+    (length content < 2 ^ 64) × (bytes ≡ head_of major (length content) ++ content)
 
 -- Below, `spells item count bytes` says what spells the items inside a list or a map.
 -- The bytes spell these items one after another, count of them with all that they hold.
 abbrev pub EncodesEach : (Item → ℕ → List ℕ → Type 0) → List Item → ℕ → List ℕ → Type 0
 EncodesEach spells [] count bytes = (count ≡ 0) × (bytes ≡ [])
-EncodesEach spells (item ∷ items) count bytes = (m n : ℕ) × (front back : List ℕ) × spells item m front × EncodesEach spells items n back × (count ≡ m + n) × (bytes ≡ front ++ back)
+EncodesEach spells (item ∷ items) count bytes =
+    (m n : ℕ) × (front back : List ℕ) × spells item m front × EncodesEach spells items n back
+    × (count ≡ m + n) × (bytes ≡ front ++ back)
 
--- The bytes spell these entries of a map one after another, each a key and its value. A key is an item too.
+-- The bytes spell these entries of a map one after another, each a key and its value. A key is an
+-- item too.
 abbrev pub EncodesEntries : (Item → ℕ → List ℕ → Type 0) → List (ℕ × Item) → ℕ → List ℕ → Type 0
 EncodesEntries spells [] count bytes = (count ≡ 0) × (bytes ≡ [])
-EncodesEntries spells (entry ∷ entries) count bytes = (m n : ℕ) × (key front back : List ℕ) × IsHead 0 entry.0 key × spells entry.1 m front × EncodesEntries spells entries n back × (count ≡ suc (m + n)) × (bytes ≡ key ++ (front ++ back))
+EncodesEntries spells (entry ∷ entries) count bytes =
+    (m n : ℕ) × (key front back : List ℕ) × IsHead 0 entry.0 key × spells entry.1 m front
+    × EncodesEntries spells entries n back × (count ≡ suc (m + n))
+    × (bytes ≡ key ++ (front ++ back))
 
 -- no key stands twice
 abbrev pub KeysDiffer : List (ℕ × Item) → Type 0
 KeysDiffer [] = Unit {0}
-KeysDiffer (entry ∷ entries) = AllByRecursion (λ (other : ℕ × Item). other.0 ≢ entry.0) entries × KeysDiffer entries
+KeysDiffer (entry ∷ entries) =
+    AllByRecursion (λ (other : ℕ × Item). other.0 ≢ entry.0) entries × KeysDiffer entries
 
--- the entries, put one after another each at its place by key among those before, which are in order
+-- the entries, put one after another each at its place by key among those before
 abbrev pub put_all : List (ℕ × Item) → List (ℕ × Item) → List (ℕ × Item)
 put_all done [] = done
 put_all done (entry ∷ entries) = put_all (insert_entry nat_cmp done entry.0 entry.1) entries
@@ -62,14 +70,24 @@ EncodesFlat item bytes =
 
 -- a list: major type 4 with the number of its items, and then these
 abbrev pub EncodesList : (Item → ℕ → List ℕ → Type 0) → Item → ℕ → List ℕ → Type 0
-EncodesList spells item count bytes = (items : List Item) × (n : ℕ) × (rest : List ℕ) × (item ≡ v.List items) × (length items < 2 ^ 64) × EncodesEach spells items n rest × (count ≡ suc n) × (bytes ≡ head_of 4 (length items) ++ rest)
+EncodesList spells item count bytes =
+    (items : List Item) × (n : ℕ) × (rest : List ℕ) × (item ≡ v.List items)
+    × (length items < 2 ^ 64) × EncodesEach spells items n rest × (count ≡ suc n)
+    × (bytes ≡ head_of 4 (length items) ++ rest)
 
--- a map: major type 5 with the number of its entries, and then these, in any order of keys; the item has its pairs by rising key
+-- a map: major type 5 with the number of its entries, and then these, in any order of keys; the item
+-- has its pairs by rising key
 abbrev pub EncodesMap : (Item → ℕ → List ℕ → Type 0) → Item → ℕ → List ℕ → Type 0
-EncodesMap spells item count bytes = (entries : List (ℕ × Item)) × (n : ℕ) × (rest : List ℕ) × (item ≡ v.Map (pairs_of (put_all [] entries))) × KeysDiffer entries × (length entries < 2 ^ 64) × EncodesEntries spells entries n rest × (count ≡ suc n) × (bytes ≡ head_of 5 (length entries) ++ rest)
+EncodesMap spells item count bytes =
+    (entries : List (ℕ × Item)) × (n : ℕ) × (rest : List ℕ)
+    × (item ≡ v.Map (pairs_of (put_all [] entries))) × KeysDiffer entries
+    × (length entries < 2 ^ 64) × EncodesEntries spells entries n rest × (count ≡ suc n)
+    × (bytes ≡ head_of 5 (length entries) ++ rest)
 
--- The bytes spell the item, in which lists and maps nest at most `levels` deep, and with which there are
--- `count` items, those inside and the keys of maps counted.
+-- The bytes spell the item, in which lists and maps nest at most `levels` deep, and with which there
+-- are `count` items, those inside and the keys of maps counted.
 unfoldable pub Encodes : ℕ → Item → ℕ → List ℕ → Type 0
 Encodes zero item count bytes = EncodesFlat item bytes × (count ≡ 1)
-Encodes (suc levels) item count bytes = (EncodesFlat item bytes × (count ≡ 1)) ⊎ (EncodesList (Encodes levels) item count bytes ⊎ EncodesMap (Encodes levels) item count bytes)
+Encodes (suc levels) item count bytes =
+    (EncodesFlat item bytes × (count ≡ 1))
+    ⊎ (EncodesList (Encodes levels) item count bytes ⊎ EncodesMap (Encodes levels) item count bytes)

@@ -1,3 +1,5 @@
+pub mod Refusals
 pub mod Grammar
 pub mod Reading
 pub mod Writing
+pub mod Internal

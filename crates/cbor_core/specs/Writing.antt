@@ -1,5 +1,5 @@
--- What may be written, and the one spelling that is written (RFC 8949, 4.2.1). Each definition is given
--- at one level, where the items inside are already seen as their own value of it.
+-- What may be written, and the one spelling that is written (RFC 8949, 4.2.1). Each definition is
+-- given at one level, where the items inside are already seen as their own value of it.
 use Rattle.std.specs.Prelude.{ℕ, suc, ◌+◌, ◌^◌, max, List, [], ◌∷◌, ◌++◌, length, Bool, true, ◌&&◌, nat_lt, map}
 use Rattle.std.specs.List.{flat_map, list_all}
 use Rattle.std.specs.Str.{is_utf8}
@@ -24,7 +24,8 @@ encoding_step (Item-F.Whole n) = head_of 0 n
 encoding_step (Item-F.Blob content) = head_of 2 (length content) ++ content
 encoding_step (Item-F.Text content) = head_of 3 (length content) ++ content
 encoding_step (Item-F.List items) = head_of 4 (length items) ++ flat_map (λ i. i) items
-encoding_step (Item-F.Map pairs) = head_of 5 (length pairs) ++ flat_map (λ (p : Pair (List ℕ)). head_of 0 p.key ++ p.value) pairs
+encoding_step (Item-F.Map pairs) =
+    head_of 5 (length pairs) ++ flat_map (λ (p : Pair (List ℕ)). head_of 0 p.key ++ p.value) pairs
 
 abbrev pub encoding_of : Item → List ℕ
 encoding_of = fold-Item (List ℕ) encoding_step
@@ -57,7 +58,8 @@ keys_rise_step (Item-F.Whole n) = true
 keys_rise_step (Item-F.Blob content) = true
 keys_rise_step (Item-F.Text content) = true
 keys_rise_step (Item-F.List items) = list_all (λ i. i) items
-keys_rise_step (Item-F.Map pairs) = rise (map (λ (p : Pair Bool). p.key) pairs) && list_all (λ (p : Pair Bool). p.value) pairs
+keys_rise_step (Item-F.Map pairs) =
+    rise (map (λ (p : Pair Bool). p.key) pairs) && list_all (λ (p : Pair Bool). p.value) pairs
 
 abbrev pub keys_rise : Item → Bool
 keys_rise = fold-Item Bool keys_rise_step
@@ -68,7 +70,9 @@ fits_step (Item-F.Whole n) = nat_lt n (2 ^ 64)
 fits_step (Item-F.Blob content) = nat_lt (length content) (2 ^ 64)
 fits_step (Item-F.Text content) = is_utf8 content && nat_lt (length content) (2 ^ 64)
 fits_step (Item-F.List items) = nat_lt (length items) (2 ^ 64) && list_all (λ i. i) items
-fits_step (Item-F.Map pairs) = nat_lt (length pairs) (2 ^ 64) && list_all (λ (p : Pair Bool). nat_lt p.key (2 ^ 64) && p.value) pairs
+fits_step (Item-F.Map pairs) =
+    nat_lt (length pairs) (2 ^ 64)
+    && list_all (λ (p : Pair Bool). nat_lt p.key (2 ^ 64) && p.value) pairs
 
 abbrev pub fits : Item → Bool
 fits = fold-Item Bool fits_step

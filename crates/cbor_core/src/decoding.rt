@@ -1,9 +1,12 @@
+//! Reading one item (RFC 8949, 3).
+
 ghost use Rattle.std.specs.Prelude.{◌≡◌, ◌≤◌, ◌<◌, ℕ, [], true, length, take, IfOk, Ok, Err};
 ghost use Rattle.cbor_core.specs.declared.item.Item.{Item};
 ghost use Rattle.cbor_core.specs.declared.fault.CborFault.TheVariants.{Trailing};
 ghost use Rattle.cbor_core.specs.Grammar.{pairs_of, Encodes};
 ghost use Rattle.cbor_core.specs.Writing.{item_nesting, count_of, keys_rise};
-ghost use Rattle.cbor_core.specs.Reading.{Gives, items_at, entries_at, list_at, map_at, item_at, reading};
+ghost use Rattle.cbor_core.specs.Internal.Results.{Gives};
+ghost use Rattle.cbor_core.specs.Reading.{is_memory, items_at, entries_at, list_at, map_at, item_at, reading};
 
 use crate::fault::CborFault;
 use crate::item::{Item, Pair};
@@ -18,8 +21,8 @@ const LEVELS: u8 = 4;
 /// How many items an input may have, keys of maps counted.
 const ITEMS: u32 = 100_000;
 
-/// The item that the bytes begin with, where lists and maps may nest `levels` deep and `left` items may
-/// begin; then how many may begin after it, and what follows it.
+/// The item that the bytes begin with, where lists and maps may nest `levels` deep and `left` items
+/// may begin; then how many may begin after it, and what follows it.
 #[cycle(item)]
 #[tactic(auto, using(crate::proofs::Steps::item_steps), unfolding(crate::specs::Reading::flat_at))]
 fn read_item(
@@ -29,7 +32,8 @@ fn read_item(
     left: u32,
     bytes: &[u8],
 ) -> Result<(Item, u32, &[u8]), CborFault>
-    ensures { Gives (λ x. (x.0, x.1, x.2.now)) result (item_at total levels left bytes.now) }
+    ensures { Gives is_memory (λ x. (x.0, x.1, x.2.now)) result
+        (item_at total levels left bytes.now) }
 {
     let [first, ..] = bytes else {
         return Err(CborFault::Truncated(total as u64));
@@ -57,7 +61,8 @@ fn read_list(
     left: u32,
     bytes: &[u8],
 ) -> Result<(Item, u32, &[u8]), CborFault>
-    ensures { Gives (λ x. (x.0, x.1, x.2.now)) result (list_at total (item_at total levels) left bytes.now) }
+    ensures { Gives is_memory (λ x. (x.0, x.1, x.2.now)) result
+        (list_at total (item_at total levels) left bytes.now) }
 {
     let (count, rest) = read_argument(total, bytes)?;
     let (items, left, rest) = read_items(alloc, total, levels, count, left, rest)?;
@@ -74,7 +79,8 @@ fn read_items(
     left: u32,
     bytes: &[u8],
 ) -> Result<(Items<Item>, u32, &[u8]), CborFault>
-    ensures { Gives (λ x. (x.0, x.1, x.2.now)) result (items_at (item_at total levels) [] count left bytes.now) }
+    ensures { Gives is_memory (λ x. (x.0, x.1, x.2.now)) result
+        (items_at (item_at total levels) [] count left bytes.now) }
 {
     let mut items = Items::new(alloc);
     let mut remaining = left;
@@ -97,7 +103,8 @@ fn read_map(
     left: u32,
     bytes: &[u8],
 ) -> Result<(Item, u32, &[u8]), CborFault>
-    ensures { Gives (λ x. (x.0, x.1, x.2.now)) result (map_at total (item_at total levels) left bytes.now) }
+    ensures { Gives is_memory (λ x. (x.0, x.1, x.2.now)) result
+        (map_at total (item_at total levels) left bytes.now) }
 {
     let (count, rest) = read_argument(total, bytes)?;
     let (entries, left, rest) = read_entries(alloc, total, levels, count, left, rest)?;
@@ -114,7 +121,8 @@ fn read_entries(
     left: u32,
     bytes: &[u8],
 ) -> Result<(BTreeMap<u64, Item>, u32, &[u8]), CborFault>
-    ensures { Gives (λ x. (x.0.entries, x.1, x.2.now)) result (entries_at total (item_at total levels) [] count left bytes.now) }
+    ensures { Gives is_memory (λ x. (x.0.entries, x.1, x.2.now)) result
+        (entries_at total (item_at total levels) [] count left bytes.now) }
 {
     let mut entries = BTreeMap::new(alloc);
     let mut remaining = left;
@@ -141,7 +149,7 @@ fn read_entries(
 /// The entries of a map as its pairs.
 #[tactic(auto, using(crate::proofs::Steps::pairs_steps))]
 fn pairs(alloc: Global, entries: BTreeMap<u64, Item>) -> Result<Items<Pair>, CborFault>
-    ensures { Gives (λ x. x) result (Ok (pairs_of entries.entries)) }
+    ensures { Gives is_memory (λ x. x) result (Ok (pairs_of entries.entries)) }
 {
     let mut pairs = Items::new(alloc);
     for (key, value) in entries {
@@ -152,7 +160,7 @@ fn pairs(alloc: Global, entries: BTreeMap<u64, Item>) -> Result<Items<Pair>, Cbo
 
 #[tactic(auto, unfolding(crate::specs::Reading::reading))]
 fn read_all(alloc: Global, bytes: &[u8]) -> Result<Item, CborFault>
-    ensures { Gives (λ x. x) result (reading bytes.now) }
+    ensures { Gives is_memory (λ x. x) result (reading bytes.now) }
 {
     let (item, _, rest) = read_item(alloc, bytes.len(), LEVELS, ITEMS, bytes)?;
     if !rest.is_empty() {
@@ -173,11 +181,13 @@ pub fn decode(alloc: Global, bytes: &[u8]) -> Result<Item, CborFault>
     ensures nesting { IfOk result (λ item. item_nesting item ≤ 4) }
     ensures count { IfOk result (λ item. count_of item ≤ 100000) }
     // What is spelled within the limits is read, unless memory runs out.
-    ensures only { (item : Item) (count : ℕ) → count ≤ 100000 → Encodes 4 item count bytes.now → Gives (λ x. x) result (Ok item) }
+    ensures only { (item : Item) (count : ℕ) → count ≤ 100000 → Encodes 4 item count bytes.now
+        → Gives is_memory (λ x. x) result (Ok item) }
     // Where a front of the bytes spells an item, what follows it is refused, and nothing else is.
-    ensures trailing { (item : Item) (count n : ℕ) → n < length bytes.now → count ≤ 100000 → Encodes 4 item count (take n bytes.now) → Gives (λ x. x) result (Err (Trailing n)) }
+    ensures trailing { (item : Item) (count n : ℕ) → n < length bytes.now → count ≤ 100000
+        → Encodes 4 item count (take n bytes.now) → Gives is_memory (λ x. x) result (Err (Trailing n)) }
     // Which item, or which refusal, it is.
-    ensures exact { Gives (λ x. x) result (reading bytes.now) }
+    ensures exact { Gives is_memory (λ x. x) result (reading bytes.now) }
 {
     read_all(alloc, bytes)
 }

@@ -1,3 +1,5 @@
+//! Writing an item deterministically (RFC 8949, 4.2.1).
+
 ghost use Rattle.std.specs.Prelude.{◌≡◌, ◌≤◌, ◌<◌, ◌&&◌, ◌^◌, ◌++◌, true, length, nat_lt, IfOk, OnOk, Ok};
 ghost use Rattle.std.specs.List.{flat_map, list_all};
 ghost use Rattle.cbor_core.specs.Grammar.{head_of, Encodes};
@@ -21,7 +23,8 @@ fn write_head(out: &mut Vec<u8>, major: u8, value: u64) -> Result<(), Memory>
 
 fn write_string(out: &mut Vec<u8>, major: u8, content: &[u8]) -> Result<(), Memory>
     requires { major < 8 }
-    ensures written { OnOk result (out.new.items ≡ out.old.items ++ (head_of major (length content.now) ++ content.now)) }
+    ensures written { OnOk result
+        (out.new.items ≡ out.old.items ++ (head_of major (length content.now) ++ content.now)) }
     ensures length { length content.now < 2 ^ 64 }
 {
     write_head(out, major, content.len() as u64)?;
@@ -64,7 +67,8 @@ fn write_item(out: &mut Vec<u8>, item: &Item) -> Result<(), Memory>
 #[cycle(writing)]
 #[tactic(auto, using(crate::proofs::Writes::item_writes))]
 fn write_items(out: &mut Vec<u8>, items: &[Item]) -> Result<(), Memory>
-    ensures written { OnOk result (out.new.items ≡ out.old.items ++ flat_map encoding_of items.now) }
+    ensures written { OnOk result
+        (out.new.items ≡ out.old.items ++ flat_map encoding_of items.now) }
     ensures fits { OnOk result (list_all fits items.now ≡ true) }
 {
     for item in items {
@@ -76,8 +80,10 @@ fn write_items(out: &mut Vec<u8>, items: &[Item]) -> Result<(), Memory>
 #[cycle(writing)]
 #[tactic(auto, using(crate::proofs::Writes::item_writes))]
 fn write_pairs(out: &mut Vec<u8>, pairs: &[Pair]) -> Result<(), Memory>
-    ensures written { OnOk result (out.new.items ≡ out.old.items ++ flat_map (λ p. head_of 0 p.key ++ encoding_of p.value) pairs.now) }
-    ensures fits { OnOk result (list_all (λ p. nat_lt p.key (2 ^ 64) && fits p.value) pairs.now ≡ true) }
+    ensures written { OnOk result (out.new.items
+        ≡ out.old.items ++ flat_map (λ p. head_of 0 p.key ++ encoding_of p.value) pairs.now) }
+    ensures fits { OnOk result
+        (list_all (λ p. nat_lt p.key (2 ^ 64) && fits p.value) pairs.now ≡ true) }
 {
     for pair in pairs {
         write_head(out, 0, pair.key)?;
@@ -86,8 +92,8 @@ fn write_pairs(out: &mut Vec<u8>, pairs: &[Pair]) -> Result<(), Memory>
     Ok(())
 }
 
-/// The one spelling of an item whose maps have their pairs by rising key, in which lists and maps nest at
-/// most 4 deep and which has at most 100,000 items, keys counted.
+/// The one spelling of an item whose maps have their pairs by rising key, in which lists and maps nest
+/// at most 4 deep and which has at most 100,000 items, keys counted.
 pub fn encode(alloc: Global, item: &Item) -> Result<Vec<u8>, Memory>
     requires keys { keys_rise item.now ≡ true }
     requires nesting { item_nesting item.now ≤ 4 }

@@ -1,19 +1,21 @@
+//! Why bytes are refused.
+
 ghost use Rattle.std.specs.Prelude.{◌≡◌};
 
 use base_types::Memory;
 use std::alloc::{AllocError, AllocFailed};
 
-/// Why bytes are not one item: the first refusal from left to right. A number is a place in the input,
-/// counted in bytes from 0.
+/// Why bytes are not one item: the first refusal from left to right. A number is a place in the
+/// input, counted in bytes from 0.
 #[derive(Clone, Copy, Debug, PartialEq, Eq)]
 pub enum CborFault {
     /// The input ends inside the item. It carries the input's length.
     Truncated(u64),
     /// The argument of the head at this byte has a shorter spelling (RFC 8949, 4.2.1).
     NotShortest(u64),
-    /// The head at this byte has another major type than 0, 2, 3, 4 and 5, an argument code of 28 to 31,
-    /// a text that is not UTF-8, or a list or map that nests more than 4 deep; or it is a key and no
-    /// whole number.
+    /// The head at this byte has another major type than 0, 2, 3, 4 and 5, an argument code of 28 to
+    /// 31, a text that is not UTF-8, or a list or map that nests more than 4 deep; or it is a key and
+    /// no whole number.
     Forbidden(u64),
     /// The key at this byte stands in its map before.
     RepeatedKey(u64),

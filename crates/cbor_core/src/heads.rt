@@ -1,3 +1,5 @@
+//! The heads of items (RFC 8949, 3).
+
 ghost use Rattle.std.specs.Prelude.{◌≡◌, ◌<◌, ◌-◌, ◌++◌, length, replicate};
 ghost use Rattle.cbor_core.specs.Grammar.{head_of};
 
@@ -8,12 +10,14 @@ pub struct HeadBytes {
     pub len: u8,
 }
 
-/// The head with this major type and argument, in the fewest bytes (RFC 8949, 4.2.1). It takes no memory.
+/// The head with this major type and argument, in the fewest bytes (RFC 8949, 4.2.1). It takes no
+/// memory.
 #[tactic(auto, unfolding(crate::specs::Grammar::head_of))]
 pub fn head(major: u8, value: u64) -> HeadBytes
     requires { major < 8 }
     ensures len { result.len ≡ length (head_of major value) }
-    ensures bytes { result.bytes ≡ head_of major value ++ replicate (9 - length (head_of major value)) 0 }
+    ensures bytes { result.bytes
+        ≡ head_of major value ++ replicate (9 - length (head_of major value)) 0 }
 {
     let first = major * 32;
     if value < 24 {

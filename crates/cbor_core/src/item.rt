@@ -1,3 +1,5 @@
+//! The items of CBOR that are read and written here (RFC 8949, 3.1).
+
 use base_types::{Items, Sequence, Text};
 
 /// The content of a byte string. Contracts see it as the list of its bytes.

@@ -1,9 +1,9 @@
 //! The deterministic subset of CBOR (RFC 8949, 4.2.1) in which proof values are written, both ways:
-//! whole numbers, byte strings, texts, lists, and maps from whole numbers, of definite length and with
-//! the shortest arguments.
+//! whole numbers, byte strings, texts, lists, and maps from whole numbers, of definite length and
+//! with the shortest arguments.
 //!
-//! `specs/Grammar` says which bytes spell an item, and `specs/Reading` which refusal of an input comes
-//! first from left to right.
+//! `specs/Grammar` says which bytes spell an item, and `specs/Reading` which refusal of an input
+//! comes first from left to right.
 #![tactic(auto)]
 
 mod decoding;

@@ -1,6 +1,9 @@
+//! The heads, strings and keys that bytes begin with.
+
 ghost use Rattle.std.specs.Prelude.{◌≡◌, ◌^◌};
 ghost use Rattle.std.specs.Int.{w16, w32, w64};
-ghost use Rattle.cbor_core.specs.Reading.{Gives, place_of, byte_at, wide_at, argument_at, string_at, whole_at, blob_at, text_at, key_at};
+ghost use Rattle.cbor_core.specs.Internal.Results.{Gives};
+ghost use Rattle.cbor_core.specs.Reading.{is_memory, start_of, byte_at, wide_at, argument_at, string_at, whole_at, blob_at, text_string_at, key_at};
 
 use crate::fault::CborFault;
 use crate::item::{Bytes, Item};
@@ -9,13 +12,13 @@ use std::alloc::Global;
 
 /// Where the last bytes of an input of `total` bytes begin.
 pub fn place(total: usize, bytes: &[u8]) -> u64
-    ensures { result ≡ place_of total bytes.now }
+    ensures { result ≡ start_of total bytes.now }
 {
     total.saturating_sub(bytes.len()) as u64
 }
 
 fn read_byte(total: usize, at: u64, bytes: &[u8]) -> Result<(u64, &[u8]), CborFault>
-    ensures { Gives (λ x. (x.0, x.1.now)) result (byte_at total at bytes.now) }
+    ensures { Gives is_memory (λ x. (x.0, x.1.now)) result (byte_at total at bytes.now) }
 {
     match bytes {
         [] => Err(CborFault::Truncated(total as u64)),
@@ -25,7 +28,8 @@ fn read_byte(total: usize, at: u64, bytes: &[u8]) -> Result<(u64, &[u8]), CborFa
 }
 
 fn read_two(total: usize, at: u64, bytes: &[u8]) -> Result<(u64, &[u8]), CborFault>
-    ensures { Gives (λ x. (x.0, x.1.now)) result (wide_at total at w16 (2 ^ 8) bytes.now) }
+    ensures { Gives is_memory (λ x. (x.0, x.1.now)) result
+        (wide_at total at w16 (2 ^ 8) bytes.now) }
 {
     if bytes.len() < 2 {
         return Err(CborFault::Truncated(total as u64));
@@ -39,7 +43,8 @@ fn read_two(total: usize, at: u64, bytes: &[u8]) -> Result<(u64, &[u8]), CborFau
 }
 
 fn read_four(total: usize, at: u64, bytes: &[u8]) -> Result<(u64, &[u8]), CborFault>
-    ensures { Gives (λ x. (x.0, x.1.now)) result (wide_at total at w32 (2 ^ 16) bytes.now) }
+    ensures { Gives is_memory (λ x. (x.0, x.1.now)) result
+        (wide_at total at w32 (2 ^ 16) bytes.now) }
 {
     if bytes.len() < 4 {
         return Err(CborFault::Truncated(total as u64));
@@ -53,7 +58,8 @@ fn read_four(total: usize, at: u64, bytes: &[u8]) -> Result<(u64, &[u8]), CborFa
 }
 
 fn read_eight(total: usize, at: u64, bytes: &[u8]) -> Result<(u64, &[u8]), CborFault>
-    ensures { Gives (λ x. (x.0, x.1.now)) result (wide_at total at w64 (2 ^ 32) bytes.now) }
+    ensures { Gives is_memory (λ x. (x.0, x.1.now)) result
+        (wide_at total at w64 (2 ^ 32) bytes.now) }
 {
     if bytes.len() < 8 {
         return Err(CborFault::Truncated(total as u64));
@@ -71,7 +77,7 @@ fn read_eight(total: usize, at: u64, bytes: &[u8]) -> Result<(u64, &[u8]), CborF
 /// The argument of the head that the bytes begin with, and what follows the head.
 #[tactic(auto, unfolding(crate::specs::Reading::argument_at))]
 pub fn read_argument(total: usize, bytes: &[u8]) -> Result<(u64, &[u8]), CborFault>
-    ensures { Gives (λ x. (x.0, x.1.now)) result (argument_at total bytes.now) }
+    ensures { Gives is_memory (λ x. (x.0, x.1.now)) result (argument_at total bytes.now) }
 {
     let at = place(total, bytes);
     let [first, rest @ ..] = bytes else {
@@ -93,7 +99,7 @@ pub fn read_argument(total: usize, bytes: &[u8]) -> Result<(u64, &[u8]), CborFau
 /// The content of the byte string or text that the bytes begin with, and what follows it.
 #[tactic(auto, unfolding(crate::specs::Reading::string_at))]
 fn read_string(total: usize, bytes: &[u8]) -> Result<(&[u8], &[u8]), CborFault>
-    ensures { Gives (λ x. (x.0.now, x.1.now)) result (string_at total bytes.now) }
+    ensures { Gives is_memory (λ x. (x.0.now, x.1.now)) result (string_at total bytes.now) }
 {
     let (len, rest) = read_argument(total, bytes)?;
     let len = len as usize;
@@ -105,7 +111,7 @@ fn read_string(total: usize, bytes: &[u8]) -> Result<(&[u8], &[u8]), CborFault>
 
 #[tactic(auto, unfolding(crate::specs::Reading::whole_at))]
 pub fn read_whole(total: usize, left: u32, bytes: &[u8]) -> Result<(Item, u32, &[u8]), CborFault>
-    ensures { Gives (λ x. (x.0, x.1, x.2.now)) result (whole_at total left bytes.now) }
+    ensures { Gives is_memory (λ x. (x.0, x.1, x.2.now)) result (whole_at total left bytes.now) }
 {
     let (value, rest) = read_argument(total, bytes)?;
     Ok((Item::Whole(value), left, rest))
@@ -118,21 +124,22 @@ pub fn read_blob(
     left: u32,
     bytes: &[u8],
 ) -> Result<(Item, u32, &[u8]), CborFault>
-    ensures { Gives (λ x. (x.0, x.1, x.2.now)) result (blob_at total left bytes.now) }
+    ensures { Gives is_memory (λ x. (x.0, x.1, x.2.now)) result (blob_at total left bytes.now) }
 {
     let (content, rest) = read_string(total, bytes)?;
     let content = Bytes::from_vec(Vec::from_slice(alloc, content)?);
     Ok((Item::Blob(content), left, rest))
 }
 
-#[tactic(auto, using(crate::proofs::Steps::text_steps), unfolding(crate::specs::Reading::text_at))]
+#[tactic(auto, using(crate::proofs::Steps::text_steps), unfolding(crate::specs::Reading::text_string_at))]
 pub fn read_text(
     alloc: Global,
     total: usize,
     left: u32,
     bytes: &[u8],
 ) -> Result<(Item, u32, &[u8]), CborFault>
-    ensures { Gives (λ x. (x.0, x.1, x.2.now)) result (text_at total left bytes.now) }
+    ensures { Gives is_memory (λ x. (x.0, x.1, x.2.now)) result
+        (text_string_at total left bytes.now) }
 {
     let (content, rest) = read_string(total, bytes)?;
     let Ok(text) = str::from_utf8(content) else {
@@ -144,7 +151,7 @@ pub fn read_text(
 /// The key that the bytes begin with, and what follows it.
 #[tactic(auto, unfolding(crate::specs::Reading::key_at))]
 pub fn read_key(total: usize, left: u32, bytes: &[u8]) -> Result<(u64, &[u8]), CborFault>
-    ensures { Gives (λ x. (x.0, x.1.now)) result (key_at total left bytes.now) }
+    ensures { Gives is_memory (λ x. (x.0, x.1.now)) result (key_at total left bytes.now) }
 {
     let [first, ..] = bytes else {
         return Err(CborFault::Truncated(total as u64));

@@ -1,3 +1,5 @@
+//! Refusals, limits, and the examples of RFC 8949, appendix A.
+
 use super::*;
 use std::test::*;
 

@@ -7,7 +7,9 @@ use Rattle.std.proofs.lemmas.List.{append-nil, nil_from_length, length-drop}
 use Rattle.proof_cbor.specs.declared.fault.Part.{Part}
 use Rattle.proof_cbor.specs.declared.fault.ValueFault.{ValueFault}
 use Rattle.proof_cbor.specs.declared.fault.ValueFault.TheVariants as fault
-use Rattle.proof_cbor.specs.Reading.{◌>>=◌, Fails, each_is, one_of, ones_from, ones_of}
+use Rattle.cbor_core.specs.Internal.Results.{◌>>=◌, Fails}
+use Rattle.cbor_core.proofs.Outcomes.{fails_on}
+use Rattle.proof_cbor.specs.Reading.{is_memory, each_is, one_of, ones_from, ones_of}
 
 -- the items from i on are the item there and those behind it
 pub from : {X : Type 0} (xs : List X) (i : ℕ) (x : X) → i < length xs → x ≡ get_or xs i x → drop i xs ≡ x ∷ drop (i + 1) xs
@@ -67,15 +69,6 @@ all_end kind xs i whole le so_far =
 
 -- ---- of one kind and one size
 
-fails_on : {A B : Type 0} (e : ValueFault) (r : Result A ValueFault) (g : A → Result B ValueFault) → Fails e r → Fails e (r >>= g)
-fails_on fault.NotMultibase r g h = rw h refl
-fails_on fault.Header r g h = rw h refl
-fails_on (fault.Cbor c) r g h = rw h refl
-fails_on (fault.Shape at) r g h = rw h refl
-fails_on (fault.Length at) r g h = rw h refl
-fails_on fault.Indexes r g h = rw h refl
-fails_on fault.Memory r g h = tt
-
 cond_bind : {A B : Type 0} (t : Bool) (x : A) (d : ValueFault) (g : A → Result B ValueFault) → (cond t (Ok x) (Err d) >>= g) ≡ cond t (g x) (Err d)
 cond_bind true x d g = refl
 cond_bind false x d g = refl
@@ -101,11 +94,11 @@ module _ {X Y : Type 0} (kind : X → Option Y) (size : Y → ℕ) (at : Part) (
       let one : ones_from kind size at n done (drop i xs) ≡ ones_from kind size at n (done ++ c ∷ []) (drop (i + 1) xs) = rw (from xs i x lt is, h) refl in
       sym one ∙ so_far
 
-  pub ones_fail : (xs : List X) (i : ℕ) (done : List Y) (whole : Result (List Y) ValueFault) (e : ValueFault) (x : X) → i < length xs → x ≡ get_or xs i x → Fails e (one_of kind size at n x) → ones_from kind size at n done (drop i xs) ≡ whole → Fails e whole
+  pub ones_fail : (xs : List X) (i : ℕ) (done : List Y) (whole : Result (List Y) ValueFault) (e : ValueFault) (x : X) → i < length xs → x ≡ get_or xs i x → Fails is_memory e (one_of kind size at n x) → ones_from kind size at n done (drop i xs) ≡ whole → Fails is_memory e whole
   unfolding ones_from
   ones_fail xs i done whole e x lt is h so_far =
       let one : ones_from kind size at n done (drop i xs) ≡ (one_of kind size at n x >>= λ c. ones_from kind size at n (done ++ c ∷ []) (drop (i + 1) xs)) = rw (from xs i x lt is) refl in
-      subst (λ (r : Result (List Y) ValueFault). Fails e r) (sym one ∙ so_far) (fails_on e (one_of kind size at n x) (λ c. ones_from kind size at n (done ++ c ∷ []) (drop (i + 1) xs)) h)
+      subst (λ (r : Result (List Y) ValueFault). Fails is_memory e r) (sym one ∙ so_far) (fails_on is_memory e (one_of kind size at n x) (λ c. ones_from kind size at n (done ++ c ∷ []) (drop (i + 1) xs)) h)
 
   pub ones_end : (xs : List X) (i : ℕ) (done : List Y) (whole : Result (List Y) ValueFault) → length xs ≤ i → ones_from kind size at n done (drop i xs) ≡ whole → whole ≡ Ok done
   unfolding ones_from

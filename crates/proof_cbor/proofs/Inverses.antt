@@ -12,27 +12,12 @@ use Rattle.proof_cbor.specs.declared.fault.ValueFault.{ValueFault}
 use Rattle.proof_cbor.specs.declared.fault.ValueFault.TheVariants as fault
 use Rattle.proof_cbor.specs.declared.value.MapEntry.{MapEntry}
 use Rattle.proof_cbor.specs.Values.{all_sized, pair_of}
-use Rattle.proof_cbor.specs.Reading.{◌>>=◌, blob_level, text_level, whole_level, list_level, map_level, blob_kind, text_kind, whole_kind, entry_of, entry_kind, digest_size, each_is, ones_of, sized, blob_of, blobs_of, texts_of, wholes_of, labels_of, Five, five_of, parts_of}
+use Rattle.cbor_core.specs.Internal.Results.{◌>>=◌}
+use Rattle.proof_cbor.specs.Reading.{blob_level, text_level, whole_level, list_level, map_level, blob_kind, text_kind, whole_kind, entry_of, entry_kind, digest_size, each_is, ones_of, of_size, blob_of, blobs_of, texts_of, wholes_of, label_entries_of, Five, five_items, five_parts}
+use Rattle.cbor_core.proofs.Outcomes.{same_ok, ended, went_on}
 use Rattle.proof_cbor.proofs.Each.{parts}
 
 -- ---- results
-
-abbrev OkOf : (A : Type 0) → A → Result A ValueFault
-OkOf A x = Ok x
-
-pub same_ok : {A : Type 0} (x y : A) → OkOf A x ≡ OkOf A y → x ≡ y
-same_ok x y e = cc
-
-pub went_on : {A B : Type 0} (r : Result A ValueFault) (f : A → Result B ValueFault) (z : B) → (r >>= f) ≡ Ok z → (x : A) × (r ≡ Ok x) × (f x ≡ Ok z)
-went_on (Ok x) f z e = (x, refl, e)
-went_on (Err d) f z e = absurd cc
-
-pub goes_on : {A B : Type 0} (r : Result A ValueFault) (f : A → Result B ValueFault) (x : A) → r ≡ Ok x → (r >>= f) ≡ f x
-goes_on r f x e = rw e refl
-
-pub ended : {A : Type 0} (b : Bool) (d : ValueFault) (x y : A) → cond b (Ok x) (Err d) ≡ Ok y → (b ≡ true) × (x ≡ y)
-ended true d x y e = (refl, same_ok x y e)
-ended false d x y e = absurd cc
 
 some_of : {A : Type 0} (o : Option A) (d : ValueFault) (x : A) → ok_or o d ≡ Ok x → o ≡ Some x
 some_of (Some y) d x e = ap (λ z. Some z) (same_ok y x e)
@@ -136,7 +121,7 @@ module _ {X Y : Type 0} (kind : X → Option Y) (con : Y → X) where
   module _ (size : Y → ℕ) (at : Part) (n : ℕ) where
     ones_back : ((x : X) (y : Y) → kind x ≡ Some y → x ≡ con y) → (xs : List X) (ys : List Y) → ones_of kind size at n xs ≡ Ok ys → (xs ≡ map con ys) × (list_all (λ y. eqb (size y) n) ys ≡ true)
     ones_back back xs ys e =
-        let a = went_on (ok_or (each_is kind xs) (fault.Shape at)) (sized size at n) ys e in
+        let a = went_on (ok_or (each_is kind xs) (fault.Shape at)) (of_size size at n) ys e in
         let p = ended (list_all (λ y. eqb (size y) n) a.0) (fault.Length at) a.0 ys a.2 in
         let all = each_back back xs a.0 (some_of (each_is kind xs) (fault.Shape at) a.0 a.1) in
         (all ∙ ap (map con) p.1, subst (λ (z : List Y). list_all (λ y. eqb (size y) n) z ≡ true) p.1 p.0)
@@ -187,18 +172,18 @@ wholes_found at item ns e =
 pub wholes_again : (at : Part) (ns : List ℕ) → wholes_of at (v.List (map v.Whole ns)) ≡ Ok ns
 wholes_again at ns = rw (v.outs-List (map v.Whole ns), each_forth whole_kind v.Whole whole_forth ns) refl
 
-pub labels_found : (at : Part) (n : ℕ) (item : Item) (es : List MapEntry) → labels_of at n item ≡ Ok es → (item ≡ v.Map (map pair_of es)) × (list_all (λ (e : MapEntry). eqb (length e.digest) n) es ≡ true)
+pub labels_found : (at : Part) (n : ℕ) (item : Item) (es : List MapEntry) → label_entries_of at n item ≡ Ok es → (item ≡ v.Map (map pair_of es)) × (list_all (λ (e : MapEntry). eqb (length e.digest) n) es ≡ true)
 labels_found at n item es e =
     let a = went_on (ok_or (map_level (out-Item item)) (fault.Shape at)) (ones_of entry_kind digest_size at n) es e in
     let p = ones_back entry_kind pair_of digest_size at n entry_back a.0 es a.2 in
     (map_back item a.0 (some_of (map_level (out-Item item)) (fault.Shape at) a.0 a.1) ∙ ap v.Map p.0, p.1)
 
-pub labels_again : (at : Part) (n : ℕ) (es : List MapEntry) → list_all (λ (e : MapEntry). eqb (length e.digest) n) es ≡ true → labels_of at n (v.Map (map pair_of es)) ≡ Ok es
+pub labels_again : (at : Part) (n : ℕ) (es : List MapEntry) → list_all (λ (e : MapEntry). eqb (length e.digest) n) es ≡ true → label_entries_of at n (v.Map (map pair_of es)) ≡ Ok es
 labels_again at n es all = rw (v.outs-Map (map pair_of es)) (ones_forth entry_kind pair_of digest_size at n entry_forth es all)
 
 -- ---- the five parts
 
-five_back : (xs : List Item) (f : Five) → five_of xs ≡ Some f → xs ≡ f.0 ∷ f.1 ∷ f.2 ∷ f.3 ∷ f.4 ∷ []
+five_back : (xs : List Item) (f : Five) → five_items xs ≡ Some f → xs ≡ f.0 ∷ f.1 ∷ f.2 ∷ f.3 ∷ f.4 ∷ []
 five_back [] f e = absurd cc
 five_back (a ∷ []) f e = absurd cc
 five_back (a ∷ b ∷ []) f e = absurd cc
@@ -209,16 +194,16 @@ five_back (a ∷ b ∷ c ∷ d ∷ g ∷ []) f e =
     subst (λ (z : Five). a ∷ b ∷ c ∷ d ∷ g ∷ [] ≡ z.0 ∷ z.1 ∷ z.2 ∷ z.3 ∷ z.4 ∷ []) same refl
 five_back (a ∷ b ∷ c ∷ d ∷ g ∷ h ∷ xs) f e = absurd cc
 
-of_list : (o : Option (List Item)) (f : Five) → option_and_then five_of o ≡ Some f → (xs : List Item) × (o ≡ Some xs) × (five_of xs ≡ Some f)
+of_list : (o : Option (List Item)) (f : Five) → option_and_then five_items o ≡ Some f → (xs : List Item) × (o ≡ Some xs) × (five_items xs ≡ Some f)
 of_list None f e = absurd cc
 of_list (Some xs) f e = (xs, refl, e)
 
-pub parts_found : (item : Item) (f : Five) → parts_of item ≡ Ok f → item ≡ v.List (f.0 ∷ f.1 ∷ f.2 ∷ f.3 ∷ f.4 ∷ [])
+pub parts_found : (item : Item) (f : Five) → five_parts item ≡ Ok f → item ≡ v.List (f.0 ∷ f.1 ∷ f.2 ∷ f.3 ∷ f.4 ∷ [])
 parts_found item f e =
-    let p = of_list (list_level (out-Item item)) f (some_of (option_and_then five_of (list_level (out-Item item))) _ f e) in
+    let p = of_list (list_level (out-Item item)) f (some_of (option_and_then five_items (list_level (out-Item item))) _ f e) in
     list_back item p.0 p.1 ∙ ap v.List (five_back p.0 f p.2)
 
-pub parts_again : (a b c d e : Item) → parts_of (v.List (a ∷ b ∷ c ∷ d ∷ e ∷ [])) ≡ Ok (a, b, c, d, e)
+pub parts_again : (a b c d e : Item) → five_parts (v.List (a ∷ b ∷ c ∷ d ∷ e ∷ [])) ≡ Ok (a, b, c, d, e)
 parts_again a b c d e = rw (v.outs-List (a ∷ b ∷ c ∷ d ∷ e ∷ [])) refl
 
 pub five_joined : (item a b c d e f g h i j : Item) → item ≡ v.List (a ∷ b ∷ c ∷ d ∷ e ∷ []) → a ≡ f → b ≡ g → c ≡ h → d ≡ i → e ≡ j → item ≡ v.List (f ∷ g ∷ h ∷ i ∷ j ∷ [])

@@ -21,8 +21,10 @@ use Rattle.proof_cbor.specs.declared.fault.ValueFault.TheVariants as fault
 use Rattle.proof_cbor.specs.declared.value.BaseValue.{BaseValue}
 use Rattle.proof_cbor.specs.declared.value.DerivedValue.{DerivedValue}
 use Rattle.proof_cbor.specs.Values.{base_header, derived_header, multibase_text, IsText, pair_of, base_item, derived_item, BaseSizes, DerivedSizes, SpellsBehind, SpellsBase, SpellsDerived}
-use Rattle.proof_cbor.specs.Reading.{Gives, blob_of, blobs_of, texts_of, wholes_of, labels_of, parts_of, base_of, derived_of, decoded, bytes_of, behind, item_of, item_behind, reading_base, reading_derived}
-use Rattle.proof_cbor.proofs.Inverses.{same_ok, went_on, goes_on, ended, blob_found, blob_again, blobs_found, blobs_again, texts_found, texts_again, wholes_found, wholes_again, labels_found, labels_again, parts_found, parts_again, five_joined}
+use Rattle.cbor_core.specs.Internal.Results.{Gives}
+use Rattle.proof_cbor.specs.Reading.{is_memory, blob_of, blobs_of, texts_of, wholes_of, label_entries_of, five_parts, base_of, derived_of, base64_result, multibase_bytes, behind, item_of, item_behind, reading_base, reading_derived}
+use Rattle.cbor_core.proofs.Outcomes.{same_ok, ended, went_on, goes_on}
+use Rattle.proof_cbor.proofs.Inverses.{blob_found, blob_again, blobs_found, blobs_again, texts_found, texts_again, wholes_found, wholes_again, labels_found, labels_again, parts_found, parts_again, five_joined}
 
 -- ---- the item of a base value
 
@@ -33,7 +35,7 @@ record BaseIs (item : Item) (value : BaseValue) : Type 0 where
 base_found : (item : Item) (value : BaseValue) → base_of item ≡ Ok value → BaseIs item value
 unfolding base_of base_item
 base_found item value e =
-    let a = went_on (parts_of item) _ value e in
+    let a = went_on (five_parts item) _ value e in
     let b = went_on (blob_of part.BaseSignature 64 a.0.0) _ value a.2 in
     let c = went_on (blob_of part.PublicKey 35 a.0.1) _ value b.2 in
     let d = went_on (blob_of part.HmacKey 32 a.0.2) _ value c.2 in
@@ -71,11 +73,11 @@ record DerivedIs (item : Item) (value : DerivedValue) : Type 0 where
 derived_found : (item : Item) (value : DerivedValue) → derived_of item ≡ Ok value → DerivedIs item value
 unfolding derived_of derived_item
 derived_found item value e =
-    let a = went_on (parts_of item) _ value e in
+    let a = went_on (five_parts item) _ value e in
     let b = went_on (blob_of part.BaseSignature 64 a.0.0) _ value a.2 in
     let c = went_on (blob_of part.PublicKey 35 a.0.1) _ value b.2 in
     let d = went_on (blobs_of part.Signatures 64 a.0.2) _ value c.2 in
-    let f = went_on (labels_of part.LabelMap 32 a.0.3) _ value d.2 in
+    let f = went_on (label_entries_of part.LabelMap 32 a.0.3) _ value d.2 in
     let g = went_on (wholes_of part.Indexes a.0.4) _ value f.2 in
     let one = blob_found part.BaseSignature 64 a.0.0 b.0 b.1 in
     let two = blob_found part.PublicKey 35 a.0.1 c.0 c.1 in
@@ -123,11 +125,11 @@ item_found header text bytes item t e =
     let r : reading a.0 ≡ Ok item = item_ok (reading a.0) item a.2 in
     (count_of item, a.0, count_by a.0 (Ok item) small r, found_by a.0 (Ok item) small r, (subst IsBytes whole t.0, t.1 ∙ ap (λ (z : List ℕ). multibase_text z) whole))
 
-bytes_again : (text bytes : List ℕ) → IsText text bytes → bytes_of text ≡ Ok bytes
+bytes_again : (text bytes : List ℕ) → IsText text bytes → multibase_bytes text ≡ Ok bytes
 bytes_again text bytes t =
     let d : decode_of url_safe_no_pad (encode_of url_safe_no_pad bytes) ≡ Ok bytes = decode_of-encode_of url_safe_no_pad bytes refl t.0 in
-    let e : bytes_of (multibase_text bytes) ≡ Ok bytes = ap decoded d in
-    ap bytes_of t.1 ∙ e
+    let e : multibase_bytes (multibase_text bytes) ≡ Ok bytes = ap base64_result d in
+    ap multibase_bytes t.1 ∙ e
 
 item_again : (header rest : List ℕ) (item : Item) (count : ℕ) → length header ≡ 3 → count ≤ 100000 → Encodes 4 item count rest → item_behind header (header ++ rest) ≡ Ok item
 unfolding item_behind
@@ -144,7 +146,7 @@ base_spelled text bytes item value t i b =
     let found = base_found item value b in
     record { sizes = found.sizes; spelled = subst (λ (x : Item). SpellsBehind base_header x text) found.is (item_found base_header text bytes item t i) }
 
-pub base_result : (text bytes : List ℕ) (item : Item) (result : Result BaseValue ValueFault) → IsText text bytes → item_behind base_header bytes ≡ Ok item → Gives (λ x. x) result (base_of item) → IfOk result (λ (value : BaseValue). SpellsBase value text)
+pub base_result : (text bytes : List ℕ) (item : Item) (result : Result BaseValue ValueFault) → IsText text bytes → item_behind base_header bytes ≡ Ok item → Gives is_memory (λ x. x) result (base_of item) → IfOk result (λ (value : BaseValue). SpellsBase value text)
 base_result text bytes item (Ok value) t i g = base_spelled text bytes item value t i g
 base_result text bytes item (Err e) t i g = tt
 
@@ -152,19 +154,19 @@ pub base_read : (text : List ℕ) (value : BaseValue) → SpellsBase value text 
 unfolding reading_base
 base_read text value s =
     let bytes = base_header ++ s.spelled.1 in
-    goes_on (bytes_of text) _ bytes (bytes_again text bytes s.spelled.4)
+    goes_on (multibase_bytes text) _ bytes (bytes_again text bytes s.spelled.4)
     ∙ goes_on (item_behind base_header bytes) _ (base_item value) (item_again base_header s.spelled.1 (base_item value) s.spelled.0 refl s.spelled.2 s.spelled.3)
     ∙ base_again value s.sizes
 
-pub base_only : (text : List ℕ) (result : Result BaseValue ValueFault) (value : BaseValue) → SpellsBase value text → Gives (λ x. x) result (reading_base text) → Gives (λ x. x) result (Ok value)
-base_only text result value s g = subst (λ (r : Result BaseValue ValueFault). Gives (λ x. x) result r) (base_read text value s) g
+pub base_only : (text : List ℕ) (result : Result BaseValue ValueFault) (value : BaseValue) → SpellsBase value text → Gives is_memory (λ x. x) result (reading_base text) → Gives is_memory (λ x. x) result (Ok value)
+base_only text result value s g = subst (λ (r : Result BaseValue ValueFault). Gives is_memory (λ x. x) result r) (base_read text value s) g
 
 pub derived_spelled : (text bytes : List ℕ) (item : Item) (value : DerivedValue) → IsText text bytes → item_behind derived_header bytes ≡ Ok item → derived_of item ≡ Ok value → SpellsDerived value text
 derived_spelled text bytes item value t i b =
     let found = derived_found item value b in
     record { sizes = found.sizes; rising = found.rising; spelled = subst (λ (x : Item). SpellsBehind derived_header x text) found.is (item_found derived_header text bytes item t i) }
 
-pub derived_result : (text bytes : List ℕ) (item : Item) (result : Result DerivedValue ValueFault) → IsText text bytes → item_behind derived_header bytes ≡ Ok item → Gives (λ x. x) result (derived_of item) → IfOk result (λ (value : DerivedValue). SpellsDerived value text)
+pub derived_result : (text bytes : List ℕ) (item : Item) (result : Result DerivedValue ValueFault) → IsText text bytes → item_behind derived_header bytes ≡ Ok item → Gives is_memory (λ x. x) result (derived_of item) → IfOk result (λ (value : DerivedValue). SpellsDerived value text)
 derived_result text bytes item (Ok value) t i g = derived_spelled text bytes item value t i g
 derived_result text bytes item (Err e) t i g = tt
 
@@ -172,9 +174,9 @@ pub derived_read : (text : List ℕ) (value : DerivedValue) → SpellsDerived va
 unfolding reading_derived
 derived_read text value s =
     let bytes = derived_header ++ s.spelled.1 in
-    goes_on (bytes_of text) _ bytes (bytes_again text bytes s.spelled.4)
+    goes_on (multibase_bytes text) _ bytes (bytes_again text bytes s.spelled.4)
     ∙ goes_on (item_behind derived_header bytes) _ (derived_item value) (item_again derived_header s.spelled.1 (derived_item value) s.spelled.0 refl s.spelled.2 s.spelled.3)
     ∙ derived_again value s.sizes s.rising
 
-pub derived_only : (text : List ℕ) (result : Result DerivedValue ValueFault) (value : DerivedValue) → SpellsDerived value text → Gives (λ x. x) result (reading_derived text) → Gives (λ x. x) result (Ok value)
-derived_only text result value s g = subst (λ (r : Result DerivedValue ValueFault). Gives (λ x. x) result r) (derived_read text value s) g
+pub derived_only : (text : List ℕ) (result : Result DerivedValue ValueFault) (value : DerivedValue) → SpellsDerived value text → Gives is_memory (λ x. x) result (reading_derived text) → Gives is_memory (λ x. x) result (Ok value)
+derived_only text result value s g = subst (λ (r : Result DerivedValue ValueFault). Gives is_memory (λ x. x) result r) (derived_read text value s) g

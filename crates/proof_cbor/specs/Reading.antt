@@ -1,5 +1,5 @@
 -- What a text is read as, or the first refusal in the order of `ValueFault`.
-use Rattle.std.specs.Prelude.{◌≡◌, ℕ, List, [], ◌∷◌, ◌++◌, length, take, drop, Option, Some, None, Result, Ok, Err, ◌==◌, if◌then◌else◌}
+use Rattle.std.specs.Prelude.{ℕ, Bool, true, false, List, [], ◌∷◌, ◌++◌, length, take, drop, Option, Some, None, Result, Ok, Err, ◌==◌, if◌then◌else◌}
 use Rattle.std.specs.List.{list_all}
 use Rattle.std.specs.Option.{option_map, option_and_then, ok_or}
 use Rattle.std.specs.Str.{bytes_eq}
@@ -11,6 +11,7 @@ use Rattle.cbor_core.specs.declared.item.Item.{Item, out-Item}
 use Rattle.cbor_core.specs.declared.item.Item.TheOpen.{Item-F}
 use Rattle.cbor_core.specs.declared.item.Pair.{Pair}
 use Rattle.cbor_core.specs.Reading.{reading}
+use Rattle.cbor_core.specs.Internal.Results.{◌>>=◌}
 use Rattle.base_types.specs.Order.{rise}
 use Rattle.proof_cbor.specs.declared.fault.Part.{Part}
 use Rattle.proof_cbor.specs.declared.fault.Part.TheVariants as part
@@ -21,25 +22,15 @@ use Rattle.proof_cbor.specs.declared.value.DerivedValue.{DerivedValue}
 use Rattle.proof_cbor.specs.declared.value.MapEntry.{MapEntry}
 use Rattle.proof_cbor.specs.Values.{base_header, derived_header}
 
-infixl 10 ◌>>=◌
-abbrev pub ◌>>=◌ : {A B : Type 0} → Result A ValueFault → (A → Result B ValueFault) → Result B ValueFault
-(Ok x) >>= f = f x
-(Err e) >>= f = Err e
-
--- a call gave up with this fault, and reading does so with the same, unless it was want of memory
-abbrev pub Fails : {Y : Type 0} → ValueFault → Result Y ValueFault → Type 0
-Fails fault.Memory read = Unit {0}
-Fails fault.NotMultibase read = read ≡ Err fault.NotMultibase
-Fails fault.Header read = read ≡ Err fault.Header
-Fails (fault.Cbor e) read = read ≡ Err (fault.Cbor e)
-Fails (fault.Shape at) read = read ≡ Err (fault.Shape at)
-Fails (fault.Length at) read = read ≡ Err (fault.Length at)
-Fails fault.Indexes read = read ≡ Err fault.Indexes
-
--- what a call returned, seen by view, is what reading gives, unless memory ran out
-abbrev pub Gives : {X Y : Type 0} → (X → Y) → Result X ValueFault → Result Y ValueFault → Type 0
-Gives view (Ok x) read = read ≡ Ok (view x)
-Gives view (Err e) read = Fails e read
+-- whether memory ran out
+abbrev pub is_memory : ValueFault → Bool
+is_memory fault.Memory = true
+is_memory fault.NotMultibase = false
+is_memory fault.Header = false
+is_memory (fault.Cbor e) = false
+is_memory (fault.Shape at) = false
+is_memory (fault.Length at) = false
+is_memory fault.Indexes = false
 
 -- ---- an item as what it is, if it is of that kind
 
@@ -98,21 +89,23 @@ one_of kind size at n x = do
   if size y == n then Ok y else Err (fault.Length at)
 
 -- such ones behind those that are done, the first other one refused
-unfoldable pub ones_from : {X Y : Type 0} → (X → Option Y) → (Y → ℕ) → Part → ℕ → List Y → List X → Result (List Y) ValueFault
+unfoldable pub ones_from : {X Y : Type 0} → (X → Option Y) → (Y → ℕ) → Part → ℕ → List Y → List X
+    → Result (List Y) ValueFault
 ones_from kind size at n done [] = Ok done
 ones_from kind size at n done (x ∷ xs) = do
   y ← one_of kind size at n x
   ones_from kind size at n (done ++ y ∷ []) xs
 
 -- those of one kind, where each is of this size
-abbrev pub sized : {Y : Type 0} → (Y → ℕ) → Part → ℕ → List Y → Result (List Y) ValueFault
-sized size at n ys = if list_all (λ y. size y == n) ys then Ok ys else Err (fault.Length at)
+abbrev pub of_size : {Y : Type 0} → (Y → ℕ) → Part → ℕ → List Y → Result (List Y) ValueFault
+of_size size at n ys = if list_all (λ y. size y == n) ys then Ok ys else Err (fault.Length at)
 
 -- each is of the kind, and then each is of this size
-abbrev pub ones_of : {X Y : Type 0} → (X → Option Y) → (Y → ℕ) → Part → ℕ → List X → Result (List Y) ValueFault
+abbrev pub ones_of : {X Y : Type 0} → (X → Option Y) → (Y → ℕ) → Part → ℕ → List X
+    → Result (List Y) ValueFault
 ones_of kind size at n xs = do
   ys ← ok_or (each_is kind xs) (fault.Shape at)
-  sized size at n ys
+  of_size size at n ys
 
 -- a byte string of so many bytes
 abbrev pub blob_of : Part → ℕ → Item → Result (List ℕ) ValueFault
@@ -137,8 +130,8 @@ wholes_of at item = do
   ok_or (each_is whole_kind items) (fault.Shape at)
 
 -- a map to byte strings of so many bytes each
-abbrev pub labels_of : Part → ℕ → Item → Result (List MapEntry) ValueFault
-labels_of at n item = do
+abbrev pub label_entries_of : Part → ℕ → Item → Result (List MapEntry) ValueFault
+label_entries_of at n item = do
   pairs ← ok_or (map_level (out-Item item)) (fault.Shape at)
   ones_of entry_kind digest_size at n pairs
 
@@ -148,42 +141,56 @@ labels_of at n item = do
 abbrev pub Five : Type 0
 Five = Item × Item × Item × Item × Item
 
-abbrev pub five_of : List Item → Option Five
-five_of (a ∷ b ∷ c ∷ d ∷ e ∷ []) = Some (a, b, c, d, e)
-five_of other = None
+abbrev pub five_items : List Item → Option Five
+five_items (a ∷ b ∷ c ∷ d ∷ e ∷ []) = Some (a, b, c, d, e)
+five_items other = None
 
-abbrev pub parts_of : Item → Result Five ValueFault
-parts_of item = ok_or (option_and_then five_of (list_level (out-Item item))) (fault.Shape part.Array)
+abbrev pub five_parts : Item → Result Five ValueFault
+five_parts item =
+    ok_or (option_and_then five_items (list_level (out-Item item))) (fault.Shape part.Array)
 
 unfoldable pub base_of : Item → Result BaseValue ValueFault
 base_of item = do
-  five ← parts_of item
+  five ← five_parts item
   signature ← blob_of part.BaseSignature 64 five.0
   key ← blob_of part.PublicKey 35 five.1
   secret ← blob_of part.HmacKey 32 five.2
   signatures ← blobs_of part.Signatures 64 five.3
   pointers ← texts_of part.Pointers five.4
-  Ok (record { signature = signature; key = key; secret = secret; signatures = signatures; pointers = pointers })
+  Ok (record {
+    signature = signature;
+    key = key;
+    secret = secret;
+    signatures = signatures;
+    pointers = pointers;
+  })
 
 unfoldable pub derived_of : Item → Result DerivedValue ValueFault
 derived_of item = do
-  five ← parts_of item
+  five ← five_parts item
   signature ← blob_of part.BaseSignature 64 five.0
   key ← blob_of part.PublicKey 35 five.1
   signatures ← blobs_of part.Signatures 64 five.2
-  labels ← labels_of part.LabelMap 32 five.3
+  labels ← label_entries_of part.LabelMap 32 five.3
   indexes ← wholes_of part.Indexes five.4
-  if rise indexes then Ok (record { signature = signature; key = key; signatures = signatures; labels = labels; indexes = indexes }) else Err fault.Indexes
+  if rise indexes then Ok (record {
+    signature = signature;
+    key = key;
+    signatures = signatures;
+    labels = labels;
+    indexes = indexes;
+  }) else Err fault.Indexes
 
 -- bytes that base64url gave, if it did
-abbrev pub decoded : Result (List ℕ) DecodeError → Result (List ℕ) ValueFault
-decoded (Ok bytes) = Ok bytes
-decoded (Err e) = Err fault.NotMultibase
+abbrev pub base64_result : Result (List ℕ) DecodeError → Result (List ℕ) ValueFault
+base64_result (Ok bytes) = Ok bytes
+base64_result (Err e) = Err fault.NotMultibase
 
 -- the bytes of a text that begins with `u`
-abbrev pub bytes_of : List ℕ → Result (List ℕ) ValueFault
-bytes_of [] = Err fault.NotMultibase
-bytes_of (c ∷ text) = if c == 117 then decoded (decode_of url_safe_no_pad text) else Err fault.NotMultibase
+abbrev pub multibase_bytes : List ℕ → Result (List ℕ) ValueFault
+multibase_bytes [] = Err fault.NotMultibase
+multibase_bytes (c ∷ text) =
+    if c == 117 then base64_result (decode_of url_safe_no_pad text) else Err fault.NotMultibase
 
 -- what follows the three bytes of a header
 abbrev pub behind : List ℕ → List ℕ → Result (List ℕ) ValueFault
@@ -201,12 +208,12 @@ item_behind header bytes = do
 
 unfoldable pub reading_base : List ℕ → Result BaseValue ValueFault
 reading_base text = do
-  bytes ← bytes_of text
+  bytes ← multibase_bytes text
   item ← item_behind base_header bytes
   base_of item
 
 unfoldable pub reading_derived : List ℕ → Result DerivedValue ValueFault
 reading_derived text = do
-  bytes ← bytes_of text
+  bytes ← multibase_bytes text
   item ← item_behind derived_header bytes
   derived_of item

@@ -1,4 +1,5 @@
--- Which text spells a proof value of `ecdsa-sd-2023` (Data Integrity ECDSA Cryptosuites 1.0, 3.5.2 to 3.5.3 and 3.5.7 to 3.5.8).
+-- Which text spells a proof value of `ecdsa-sd-2023` (Data Integrity ECDSA Cryptosuites 1.0, 3.5.2 to
+-- 3.5.3 and 3.5.7 to 3.5.8).
 use Rattle.std.specs.Prelude.{◌≡◌, ℕ, ◌≤◌, List, [], ◌∷◌, ◌++◌, length, map, Bool, true, ◌==◌}
 use Rattle.std.specs.List.{list_all}
 use Rattle.base64.specs.Engines.{url_safe_no_pad}
@@ -21,7 +22,8 @@ base_header = 0xd9 ∷ 0x5d ∷ 0x00 ∷ []
 abbrev pub derived_header : List ℕ
 derived_header = 0xd9 ∷ 0x5d ∷ 0x01 ∷ []
 
--- the text of bytes: `u`, and base64url without padding (RFC 4648, section 5; Controlled Identifiers 1.0, 2.4)
+-- the text of bytes: `u`, and base64url without padding (RFC 4648, section 5; Controlled Identifiers
+-- 1.0, 2.4)
 abbrev pub multibase_text : List ℕ → List ℕ
 multibase_text bytes = 117 ∷ encode_of url_safe_no_pad bytes
 
@@ -43,11 +45,14 @@ pair_of entry = record { key = entry.number; value = v.Blob entry.digest }
 
 -- the list of five parts that a base value is (3.5.2)
 unfoldable pub base_item : BaseValue → Item
-base_item value = v.List (v.Blob value.signature ∷ v.Blob value.key ∷ v.Blob value.secret ∷ v.List (map v.Blob value.signatures) ∷ v.List (map v.Text value.pointers) ∷ [])
+base_item value = v.List (v.Blob value.signature ∷ v.Blob value.key ∷ v.Blob value.secret
+    ∷ v.List (map v.Blob value.signatures) ∷ v.List (map v.Text value.pointers) ∷ [])
 
 -- the list of five parts that a derived value is (3.5.7)
 unfoldable pub derived_item : DerivedValue → Item
-derived_item value = v.List (v.Blob value.signature ∷ v.Blob value.key ∷ v.List (map v.Blob value.signatures) ∷ v.Map (map pair_of value.labels) ∷ v.List (map v.Whole value.indexes) ∷ [])
+derived_item value = v.List (v.Blob value.signature ∷ v.Blob value.key
+    ∷ v.List (map v.Blob value.signatures) ∷ v.Map (map pair_of value.labels)
+    ∷ v.List (map v.Whole value.indexes) ∷ [])
 
 -- the byte strings of a base value have their lengths (3.5.3)
 pub record BaseSizes (value : BaseValue) : Type 0 where
@@ -65,15 +70,17 @@ pub record DerivedSizes (value : DerivedValue) : Type 0 where
 
 -- the text spells an item behind a header, which nests at most 4 deep and has at most 100,000 items
 abbrev pub SpellsBehind : List ℕ → Item → List ℕ → Type 0
-SpellsBehind header item text = (count : ℕ) × (rest : List ℕ) × (count ≤ 100000) × Encodes 4 item count rest × IsText text (header ++ rest)
+SpellsBehind header item text =
+    (count : ℕ) × (rest : List ℕ) × (count ≤ 100000) × Encodes 4 item count rest
+    × IsText text (header ++ rest)
 
 -- the text spells the base value
 pub record SpellsBase (value : BaseValue) (text : List ℕ) : Type 0 where
   pub sizes : BaseSizes value
   pub spelled : SpellsBehind base_header (base_item value) text
 
--- The text spells the derived value, whose indexes rise. Its label map may be spelled in any order of
--- numbers; the value has them by rising number.
+-- The text spells the derived value, whose indexes rise. Its label map may be spelled in any order
+-- of numbers; the value has them by rising number.
 pub record SpellsDerived (value : DerivedValue) (text : List ℕ) : Type 0 where
   pub sizes : DerivedSizes value
   pub rising : rise value.indexes ≡ true
@@ -88,10 +95,14 @@ derived_proof_bytes value = derived_header ++ encoding_of (derived_item value)
 
 -- the value is one of Rust's types, and its bytes spell it
 abbrev pub CanWriteBase : BaseValue → Type 0
-CanWriteBase value = BaseSizes value × Encodes 4 (base_item value) (count_of (base_item value)) (encoding_of (base_item value))
+CanWriteBase value =
+    BaseSizes value
+    × Encodes 4 (base_item value) (count_of (base_item value)) (encoding_of (base_item value))
 
 abbrev pub CanWriteDerived : DerivedValue → Type 0
-CanWriteDerived value = DerivedSizes value × Encodes 4 (derived_item value) (count_of (derived_item value)) (encoding_of (derived_item value))
+CanWriteDerived value =
+    DerivedSizes value
+    × Encodes 4 (derived_item value) (count_of (derived_item value)) (encoding_of (derived_item value))
 
 -- the base value with another signature
 abbrev pub with_signature : BaseValue → List ℕ → BaseValue

@@ -1,6 +1,9 @@
+//! The bytes of a text, and the item behind a header.
+
 ghost use Rattle.std.specs.Prelude.{◌≡◌, IfOk};
 ghost use Rattle.proof_cbor.specs.Values.{IsText};
-ghost use Rattle.proof_cbor.specs.Reading.{Gives, bytes_of, item_behind};
+ghost use Rattle.cbor_core.specs.Internal.Results.{Gives};
+ghost use Rattle.proof_cbor.specs.Reading.{is_memory, multibase_bytes, item_behind};
 
 use crate::fault::ValueFault;
 use base64::DecodeAllocError;
@@ -10,7 +13,7 @@ use std::alloc::Global;
 
 /// The bytes of a text: `u`, and strict base64url without padding.
 pub fn bytes_in(alloc: Global, text: &str) -> Result<Vec<u8>, ValueFault>
-    ensures exact { Gives (λ x. x.items) result (bytes_of text.now) }
+    ensures exact { Gives is_memory (λ x. x.items) result (multibase_bytes text.now) }
     ensures text { IfOk result (λ bytes. IsText text.now bytes.items) }
 {
     let [b'u', rest @ ..] = text.as_bytes() else {
@@ -26,7 +29,7 @@ pub fn bytes_in(alloc: Global, text: &str) -> Result<Vec<u8>, ValueFault>
 /// The item behind a header.
 #[tactic(auto, unfolding(crate::specs::Reading::item_behind))]
 pub fn item_in(alloc: Global, header: &[u8; 3], bytes: &[u8]) -> Result<Item, ValueFault>
-    ensures { Gives (λ x. x) result (item_behind header.now bytes.now) }
+    ensures { Gives is_memory (λ x. x) result (item_behind header.now bytes.now) }
 {
     if bytes.len() < 3 {
         return Err(ValueFault::Header);

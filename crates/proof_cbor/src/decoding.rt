@@ -1,3 +1,5 @@
+//! Reading proof values (Data Integrity ECDSA Cryptosuites 1.0, 3.5.3 and 3.5.8).
+
 ghost use Rattle.std.specs.Prelude.{◌≡◌, ◌≤◌, true, map, IfOk, Ok};
 ghost use Rattle.cbor_core.specs.Writing.{count_of};
 ghost use Rattle.base_types.specs.Order.{rise};
@@ -5,7 +7,8 @@ ghost use Rattle.proof_cbor.specs.declared.value.MapEntry.{MapEntry};
 ghost use Rattle.proof_cbor.specs.declared.value.BaseValue.{BaseValue};
 ghost use Rattle.proof_cbor.specs.declared.value.DerivedValue.{DerivedValue};
 ghost use Rattle.proof_cbor.specs.Values.{base_item, derived_item, SpellsBase, SpellsDerived};
-ghost use Rattle.proof_cbor.specs.Reading.{Gives, base_of, derived_of, reading_base, reading_derived};
+ghost use Rattle.cbor_core.specs.Internal.Results.{Gives};
+ghost use Rattle.proof_cbor.specs.Reading.{is_memory, base_of, derived_of, reading_base, reading_derived};
 
 use crate::bytes::{bytes_in, item_in};
 use crate::fault::{Part, ValueFault};
@@ -19,7 +22,7 @@ use std::alloc::Global;
 /// The base value that an item is.
 #[tactic(auto, unfolding(crate::specs::Reading::base_of))]
 fn base_in(alloc: Global, item: &Item) -> Result<BaseValue, ValueFault>
-    ensures { Gives (λ x. x) result (base_of item.now) }
+    ensures { Gives is_memory (λ x. x) result (base_of item.now) }
 {
     let (signature, key, secret, signatures, pointers) = five_in(item)?;
     let signature = signature_in(Part::BaseSignature, signature)?;
@@ -39,7 +42,7 @@ fn base_in(alloc: Global, item: &Item) -> Result<BaseValue, ValueFault>
 /// The derived value that an item is.
 #[tactic(auto, unfolding(crate::specs::Reading::derived_of))]
 fn derived_in(alloc: Global, item: &Item) -> Result<DerivedValue, ValueFault>
-    ensures { Gives (λ x. x) result (derived_of item.now) }
+    ensures { Gives is_memory (λ x. x) result (derived_of item.now) }
 {
     let (signature, key, signatures, labels, indexes) = five_in(item)?;
     let signature = signature_in(Part::BaseSignature, signature)?;
@@ -62,7 +65,7 @@ fn derived_in(alloc: Global, item: &Item) -> Result<DerivedValue, ValueFault>
 #[tactic(auto, unfolding(crate::specs::Reading::reading_base))]
 fn read_base(alloc: Global, text: &str) -> Result<BaseValue, ValueFault>
     ensures found { IfOk result (λ value. SpellsBase value text.now) }
-    ensures exact { Gives (λ x. x) result (reading_base text.now) }
+    ensures exact { Gives is_memory (λ x. x) result (reading_base text.now) }
 {
     let bytes = bytes_in(alloc, text)?;
     let item = item_in(alloc, &BASE_HEADER, &bytes)?;
@@ -72,7 +75,7 @@ fn read_base(alloc: Global, text: &str) -> Result<BaseValue, ValueFault>
 #[tactic(auto, unfolding(crate::specs::Reading::reading_derived))]
 fn read_derived(alloc: Global, text: &str) -> Result<DerivedValue, ValueFault>
     ensures found { IfOk result (λ value. SpellsDerived value text.now) }
-    ensures exact { Gives (λ x. x) result (reading_derived text.now) }
+    ensures exact { Gives is_memory (λ x. x) result (reading_derived text.now) }
 {
     let bytes = bytes_in(alloc, text)?;
     let item = item_in(alloc, &DERIVED_HEADER, &bytes)?;
@@ -88,9 +91,10 @@ pub fn decode_base(alloc: Global, text: &str) -> Result<BaseValue, ValueFault>
     // It may be written: it keeps the limit on items.
     ensures count { IfOk result (λ value. count_of (base_item value) ≤ 100000) }
     // What is spelled within the limits is read, unless memory runs out.
-    ensures only { (value : BaseValue) → SpellsBase value text.now → Gives (λ x. x) result (Ok value) }
+    ensures only { (value : BaseValue) → SpellsBase value text.now
+        → Gives is_memory (λ x. x) result (Ok value) }
     // Which value, or which refusal, it is.
-    ensures exact { Gives (λ x. x) result (reading_base text.now) }
+    ensures exact { Gives is_memory (λ x. x) result (reading_base text.now) }
 {
     read_base(alloc, text)
 }
@@ -102,13 +106,15 @@ pub fn decode_derived(alloc: Global, text: &str) -> Result<DerivedValue, ValueFa
     // What is read is spelled by the text, all of it.
     ensures found { IfOk result (λ value. SpellsDerived value text.now) }
     // It may be written: its labels and its indexes rise, and it keeps the limit on items.
-    ensures labels { IfOk result (λ value. rise (map (λ (e : MapEntry). e.number) value.labels) ≡ true) }
+    ensures labels { IfOk result
+        (λ value. rise (map (λ (e : MapEntry). e.number) value.labels) ≡ true) }
     ensures indexes { IfOk result (λ value. rise value.indexes ≡ true) }
     ensures count { IfOk result (λ value. count_of (derived_item value) ≤ 100000) }
     // What is spelled within the limits is read, unless memory runs out.
-    ensures only { (value : DerivedValue) → SpellsDerived value text.now → Gives (λ x. x) result (Ok value) }
+    ensures only { (value : DerivedValue) → SpellsDerived value text.now
+        → Gives is_memory (λ x. x) result (Ok value) }
     // Which value, or which refusal, it is.
-    ensures exact { Gives (λ x. x) result (reading_derived text.now) }
+    ensures exact { Gives is_memory (λ x. x) result (reading_derived text.now) }
 {
     read_derived(alloc, text)
 }

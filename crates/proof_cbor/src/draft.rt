@@ -1,3 +1,5 @@
+//! A base value whose signature is still to come.
+
 ghost use Rattle.std.specs.Prelude.{◌≡◌, ◌≤◌, ◌+◌, ◌++◌, length, take, drop, string_bytes, IfOk};
 ghost use Rattle.std.specs.Str.{IsUtf8};
 ghost use Rattle.base64.specs.Engines.{url_safe_no_pad};
@@ -13,8 +15,8 @@ use base64::engine::general_purpose::URL_SAFE_NO_PAD;
 use std::alloc::Global;
 use std::marker::Model;
 
-/// A base value whose signature is still to come, with all the memory that its text needs. Contracts
-/// see it as the bytes of the value.
+/// A base value whose signature is still to come, with all the memory that its text needs.
+/// Contracts see it as the bytes of the value.
 #[derive(Drop)]
 pub struct BaseDraft {
     bytes: Vec<u8>,
@@ -31,10 +33,12 @@ impl Model for BaseDraft {
 
     ghost view = { λ d. d.bytes.items };
 
-    ghost invariant = { λ d. (70 ≤ length d.bytes.items) × (length d.text.items ≡ 1 + encoded_size_of url_safe_no_pad (length d.bytes.items)) };
+    ghost invariant = { λ d. (70 ≤ length d.bytes.items)
+        × (length d.text.items ≡ 1 + encoded_size_of url_safe_no_pad (length d.bytes.items)) };
 }
 
-/// Puts a signature over the one in the bytes of a base value: it is behind the header and two heads.
+/// Puts a signature over the one in the bytes of a base value: it is behind the header and two
+/// heads.
 #[tactic(auto, using(crate::proofs::Drafts::draft_steps))]
 fn put_signature(bytes: &mut [u8], signature: &[u8; 64])
     requires { 70 ≤ length bytes.old }
@@ -82,8 +86,8 @@ fn text_over(bytes: &[u8], buffer: Vec<u8>) -> Text
     }
 }
 
-/// A draft of a base value with at most 100,000 items, keys counted. It takes all the memory that the
-/// text needs, whatever the signature will be.
+/// A draft of a base value with at most 100,000 items, keys counted. It takes all the memory that
+/// the text needs, whatever the signature will be.
 #[tactic(auto, using(crate::proofs::Drafts::draft_steps))]
 pub fn draft_base(alloc: Global, value: &BaseValue) -> Result<BaseDraft, Memory>
     requires { count_of (base_item value.now) ≤ 100000 }
@@ -99,10 +103,13 @@ impl BaseDraft {
     /// The text of the value with this signature in place of its own. It takes no memory.
     #[tactic(auto, using(crate::proofs::Drafts::draft_steps))]
     pub fn finish(self, signature: &[u8; 64]) -> Text
-        ensures text { (value : BaseValue) → IsDraft value self → result ≡ multibase_text (base_proof_bytes (with_signature value signature.now)) }
+        ensures text { (value : BaseValue) → IsDraft value self
+            → result ≡ multibase_text (base_proof_bytes (with_signature value signature.now)) }
         // It spells that value, where this can be written.
-        ensures spelled { (value : BaseValue) → IsDraft value self → CanWriteBase (with_signature value signature.now)
-            → count_of (base_item (with_signature value signature.now)) ≤ 100000 → SpellsBase (with_signature value signature.now) result }
+        ensures spelled { (value : BaseValue) → IsDraft value self
+            → CanWriteBase (with_signature value signature.now)
+            → count_of (base_item (with_signature value signature.now)) ≤ 100000
+            → SpellsBase (with_signature value signature.now) result }
         ensures long { length signature.now ≡ 64 }
     {
         let BaseDraft { bytes, text } = self;

@@ -1,3 +1,5 @@
+//! Writing proof values (Data Integrity ECDSA Cryptosuites 1.0, 3.5.2 and 3.5.7).
+
 ghost use Rattle.std.specs.Prelude.{◌≡◌, ◌≤◌, ◌++◌, true, map, IfOk, Ok};
 ghost use Rattle.base64.specs.GeneralPurpose.{IsBytes};
 ghost use Rattle.cbor_core.specs.Grammar.{Encodes};
@@ -21,7 +23,8 @@ fn bytes_behind(alloc: Global, header: &[u8; 3], item: &Item) -> Result<Vec<u8>,
     requires nesting { item_nesting item.now ≤ 4 }
     requires count { count_of item.now ≤ 100000 }
     ensures written { IfOk result (λ bytes. bytes.items ≡ header.now ++ encoding_of item.now) }
-    ensures spelled { IfOk result (λ _. Encodes 4 item.now (count_of item.now) (encoding_of item.now)) }
+    ensures spelled { IfOk result
+        (λ _. Encodes 4 item.now (count_of item.now) (encoding_of item.now)) }
 {
     let spelling = encode(alloc, item)?;
     let mut bytes = Vec::new(alloc);
@@ -65,7 +68,8 @@ fn bytes_of_derived(alloc: Global, value: &DerivedValue) -> Result<Vec<u8>, Memo
     bytes_behind(alloc, &DERIVED_HEADER, &item)
 }
 
-/// The text of a base value with at most 100,000 items (Data Integrity ECDSA Cryptosuites 1.0, 3.5.2).
+/// The text of a base value with at most 100,000 items (Data Integrity ECDSA Cryptosuites 1.0,
+/// 3.5.2).
 pub fn encode_base(alloc: Global, value: &BaseValue) -> Result<Text, Memory>
     requires { count_of (base_item value.now) ≤ 100000 }
     // The text is `u` and base64url of the header and the item.
@@ -79,8 +83,8 @@ pub fn encode_base(alloc: Global, value: &BaseValue) -> Result<Text, Memory>
     text_in(alloc, &bytes)
 }
 
-/// The text of a derived value with at most 100,000 items, keys of the label map counted, whose label
-/// numbers and indexes rise (Data Integrity ECDSA Cryptosuites 1.0, 3.5.7).
+/// The text of a derived value with at most 100,000 items, keys of the label map counted, whose
+/// label numbers and indexes rise (Data Integrity ECDSA Cryptosuites 1.0, 3.5.7).
 pub fn encode_derived(alloc: Global, value: &DerivedValue) -> Result<Text, Memory>
     requires labels { rise (map (λ (e : MapEntry). e.number) value.now.labels) ≡ true }
     requires indexes { rise value.now.indexes ≡ true }

@@ -1,3 +1,5 @@
+//! Why a text is no proof value.
+
 ghost use Rattle.std.specs.Prelude.{◌≡◌};
 
 use base_types::Memory;

@@ -1,3 +1,5 @@
+//! The bytes that say which kind a proof value is.
+
 /// The three bytes before a base value (Data Integrity ECDSA Cryptosuites 1.0, 3.5.2).
 pub const BASE_HEADER: [u8; 3] = [0xd9, 0x5d, 0x00];
 

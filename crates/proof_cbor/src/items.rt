@@ -1,3 +1,5 @@
+//! The item of CBOR that a proof value is.
+
 ghost use Rattle.std.specs.Prelude.{◌≡◌, map, length, true, IfOk, [], ◌∷◌};
 ghost use Rattle.cbor_core.specs.declared.item.Item.TheVariants as v;
 ghost use Rattle.proof_cbor.specs.Values.{all_sized, digests_sized, BaseSizes, DerivedSizes, pair_of, base_item, derived_item};

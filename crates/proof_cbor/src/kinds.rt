@@ -1,3 +1,5 @@
+//! An item as what it is.
+
 ghost use Rattle.std.specs.Prelude.{◌≡◌};
 ghost use Rattle.std.specs.Option.{option_map, option_copied};
 ghost use Rattle.cbor_core.specs.declared.item.Item.{out-Item};

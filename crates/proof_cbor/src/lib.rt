@@ -1,9 +1,9 @@
-//! The proof values of the cryptosuite `ecdsa-sd-2023` (Data Integrity ECDSA Cryptosuites 1.0, 3.5):
-//! the base value that an issuer makes and the derived value that a holder makes of it.
+//! The proof values of the cryptosuite `ecdsa-sd-2023` (Data Integrity ECDSA Cryptosuites 1.0,
+//! 3.5): the base value that an issuer makes and the derived value that a holder makes of it.
 //!
 //! A value is CBOR (`cbor_core`) behind three bytes that say which kind it is, as the text `u` and
-//! base64url without padding. `specs/Values` says which text spells a value, and `specs/Reading` which
-//! refusal of a text comes first.
+//! base64url without padding. `specs/Values` says which text spells a value, and `specs/Reading`
+//! which refusal of a text comes first.
 #![tactic(auto)]
 
 mod bytes;

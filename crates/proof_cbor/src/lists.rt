@@ -1,7 +1,10 @@
+//! The parts that are lists and maps.
+
 ghost use Rattle.std.specs.Prelude.{◌≡◌, [], is_some, length};
 ghost use Rattle.std.specs.Option.{ok_or};
 ghost use Rattle.proof_cbor.specs.declared.fault.ValueFault.TheVariants.{Shape};
-ghost use Rattle.proof_cbor.specs.Reading.{Gives, each_is, blob_kind, text_kind, whole_kind, entry_kind, digest_size, ones_from, blobs_of, texts_of, wholes_of, labels_of};
+ghost use Rattle.cbor_core.specs.Internal.Results.{Gives};
+ghost use Rattle.proof_cbor.specs.Reading.{is_memory, each_is, blob_kind, text_kind, whole_kind, entry_kind, digest_size, ones_from, blobs_of, texts_of, wholes_of, label_entries_of};
 
 use crate::fault::{Part, ValueFault};
 use crate::kinds::{blob_in, list_in, map_in, text_in, whole_in};
@@ -12,7 +15,7 @@ use cbor_core::{Item, Pair};
 use std::alloc::Global;
 
 fn texts(alloc: Global, part: Part, items: &[Item]) -> Result<Sequence<Text>, ValueFault>
-    ensures { Gives (λ x. x) result (ok_or (each_is text_kind items.now) (Shape part)) }
+    ensures { Gives is_memory (λ x. x) result (ok_or (each_is text_kind items.now) (Shape part)) }
 {
     let mut texts = Sequence::new(alloc);
     for item in items {
@@ -26,7 +29,7 @@ fn texts(alloc: Global, part: Part, items: &[Item]) -> Result<Sequence<Text>, Va
 
 /// The texts of a list.
 pub fn texts_in(alloc: Global, part: Part, item: &Item) -> Result<Sequence<Text>, ValueFault>
-    ensures { Gives (λ x. x) result (texts_of part item.now) }
+    ensures { Gives is_memory (λ x. x) result (texts_of part item.now) }
 {
     let Some(items) = list_in(item) else {
         return Err(ValueFault::Shape(part));
@@ -35,7 +38,7 @@ pub fn texts_in(alloc: Global, part: Part, item: &Item) -> Result<Sequence<Text>
 }
 
 fn wholes(alloc: Global, part: Part, items: &[Item]) -> Result<Sequence<u64>, ValueFault>
-    ensures { Gives (λ x. x) result (ok_or (each_is whole_kind items.now) (Shape part)) }
+    ensures { Gives is_memory (λ x. x) result (ok_or (each_is whole_kind items.now) (Shape part)) }
 {
     let mut wholes = Sequence::new(alloc);
     for item in items {
@@ -49,7 +52,7 @@ fn wholes(alloc: Global, part: Part, items: &[Item]) -> Result<Sequence<u64>, Va
 
 /// The whole numbers of a list.
 pub fn wholes_in(alloc: Global, part: Part, item: &Item) -> Result<Sequence<u64>, ValueFault>
-    ensures { Gives (λ x. x) result (wholes_of part item.now) }
+    ensures { Gives is_memory (λ x. x) result (wholes_of part item.now) }
 {
     let Some(items) = list_in(item) else {
         return Err(ValueFault::Shape(part));
@@ -70,7 +73,7 @@ fn are_blobs(items: &[Item]) -> bool
 }
 
 fn signatures(alloc: Global, part: Part, items: &[Item]) -> Result<Sequence<[u8; 64]>, ValueFault>
-    ensures { Gives (λ x. x) result (ones_from blob_kind length part 64 [] items.now) }
+    ensures { Gives is_memory (λ x. x) result (ones_from blob_kind length part 64 [] items.now) }
 {
     let mut signatures = Sequence::new(alloc);
     for item in items {
@@ -87,7 +90,7 @@ pub fn signatures_in(
     part: Part,
     item: &Item,
 ) -> Result<Sequence<[u8; 64]>, ValueFault>
-    ensures { Gives (λ x. x) result (blobs_of part 64 item.now) }
+    ensures { Gives is_memory (λ x. x) result (blobs_of part 64 item.now) }
 {
     let Some(items) = list_in(item) else {
         return Err(ValueFault::Shape(part));
@@ -111,7 +114,8 @@ fn are_entries(pairs: &[Pair]) -> bool
 }
 
 fn entries(alloc: Global, part: Part, pairs: &[Pair]) -> Result<Sequence<MapEntry>, ValueFault>
-    ensures { Gives (λ x. x) result (ones_from entry_kind digest_size part 32 [] pairs.now) }
+    ensures { Gives is_memory (λ x. x) result
+        (ones_from entry_kind digest_size part 32 [] pairs.now) }
 {
     let mut entries = Sequence::new(alloc);
     for pair in pairs {
@@ -124,7 +128,7 @@ fn entries(alloc: Global, part: Part, pairs: &[Pair]) -> Result<Sequence<MapEntr
 /// The entries of a map from numbers to digests, of 32 bytes each.
 #[tactic(auto, using(crate::proofs::Each::one_steps))]
 pub fn labels_in(alloc: Global, part: Part, item: &Item) -> Result<Sequence<MapEntry>, ValueFault>
-    ensures { Gives (λ x. x) result (labels_of part 32 item.now) }
+    ensures { Gives is_memory (λ x. x) result (label_entries_of part 32 item.now) }
 {
     let Some(pairs) = map_in(item) else {
         return Err(ValueFault::Shape(part));

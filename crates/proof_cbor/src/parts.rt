@@ -1,6 +1,9 @@
+//! The five parts, and those of a fixed length.
+
 ghost use Rattle.std.specs.Prelude.{◌≡◌, ◌∷◌};
 ghost use Rattle.base_types.specs.Order.{rise};
-ghost use Rattle.proof_cbor.specs.Reading.{Gives, one_of, blob_of, entry_kind, digest_size, parts_of};
+ghost use Rattle.cbor_core.specs.Internal.Results.{Gives};
+ghost use Rattle.proof_cbor.specs.Reading.{is_memory, one_of, blob_of, entry_kind, digest_size, five_parts};
 
 use crate::fault::{Part, ValueFault};
 use crate::kinds::{blob_in, list_in};
@@ -9,7 +12,7 @@ use cbor_core::{Item, Pair};
 
 /// A signature, of 64 bytes.
 pub fn signature_in(part: Part, item: &Item) -> Result<[u8; 64], ValueFault>
-    ensures { Gives (λ x. x) result (blob_of part 64 item.now) }
+    ensures { Gives is_memory (λ x. x) result (blob_of part 64 item.now) }
 {
     let Some(content) = blob_in(item) else {
         return Err(ValueFault::Shape(part));
@@ -24,7 +27,7 @@ pub fn signature_in(part: Part, item: &Item) -> Result<[u8; 64], ValueFault>
 
 /// The name of a key, of 35 bytes.
 pub fn key_in(part: Part, item: &Item) -> Result<[u8; 35], ValueFault>
-    ensures { Gives (λ x. x) result (blob_of part 35 item.now) }
+    ensures { Gives is_memory (λ x. x) result (blob_of part 35 item.now) }
 {
     let Some(content) = blob_in(item) else {
         return Err(ValueFault::Shape(part));
@@ -39,7 +42,7 @@ pub fn key_in(part: Part, item: &Item) -> Result<[u8; 35], ValueFault>
 
 /// A secret, of 32 bytes.
 pub fn secret_in(part: Part, item: &Item) -> Result<[u8; 32], ValueFault>
-    ensures { Gives (λ x. x) result (blob_of part 32 item.now) }
+    ensures { Gives is_memory (λ x. x) result (blob_of part 32 item.now) }
 {
     let Some(content) = blob_in(item) else {
         return Err(ValueFault::Shape(part));
@@ -54,7 +57,7 @@ pub fn secret_in(part: Part, item: &Item) -> Result<[u8; 32], ValueFault>
 
 /// An entry of a label map: a number and a digest of 32 bytes.
 pub fn entry_in(part: Part, pair: &Pair) -> Result<MapEntry, ValueFault>
-    ensures { Gives (λ x. x) result (one_of entry_kind digest_size part 32 pair.now) }
+    ensures { Gives is_memory (λ x. x) result (one_of entry_kind digest_size part 32 pair.now) }
 {
     let Some(content) = blob_in(&pair.value) else {
         return Err(ValueFault::Shape(part));
@@ -73,7 +76,8 @@ pub fn entry_in(part: Part, pair: &Pair) -> Result<MapEntry, ValueFault>
 /// The five parts of a value.
 #[tactic(auto, using(crate::proofs::Five::five_steps))]
 pub fn five_in(item: &Item) -> Result<(&Item, &Item, &Item, &Item, &Item), ValueFault>
-    ensures { Gives (λ x. (x.0.now, x.1.now, x.2.now, x.3.now, x.4.now)) result (parts_of item.now) }
+    ensures { Gives is_memory (λ x. (x.0.now, x.1.now, x.2.now, x.3.now, x.4.now)) result
+        (five_parts item.now) }
 {
     let Some(items) = list_in(item) else {
         return Err(ValueFault::Shape(Part::Array));

@@ -1,3 +1,5 @@
+//! Texts that are refused, and values that are written back.
+
 use super::*;
 use base64::engine::general_purpose::URL_SAFE_NO_PAD;
 use std::alloc::Global;

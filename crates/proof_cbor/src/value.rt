@@ -1,3 +1,5 @@
+//! The proof values of `ecdsa-sd-2023`.
+
 use base_types::{Sequence, Text};
 
 /// A base proof value, which an issuer makes (Data Integrity ECDSA Cryptosuites 1.0, 3.5.2).
