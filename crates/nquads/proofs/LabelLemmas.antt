@@ -12,6 +12,7 @@ use Rattle.nquads.specs.Texts.{label, find_label}
 use Rattle.nquads.specs.declared.labels.TextLabel.{TextLabel}
 
 module _ {K : Type 0} (f : K → List ℕ) where
+  -- the entries as labels
   abbrev pub labels_of : List (K × List ℕ) → List TextLabel
   labels_of es = map (λ (e : K × List ℕ). label (f e.0) e.1) es
 

@@ -7,8 +7,7 @@ pub mod ReadingEscapes
 pub mod ReadingTerms
 pub mod ReadingLines
 pub mod ReadingElements
-pub mod ReadingDatasets
 pub mod ReadingBlanks
+pub mod ReadingDatasets
 pub mod ReadingRenamings
 pub mod ReadingSame
-pub mod Rows

@@ -47,10 +47,12 @@ module _ (label : List ℕ → List ℕ) where
   kept-canonical quads lines up kept q made moved sorted filtered same =
       dedup_is bytes_eq up kept filtered ∙ rising-dedup lines up moved sorted ∙ ap sorted_set made ∙ rising-text_lines quads q same
 
+-- a text at the end of joined texts
 pub concat-push : (lines : List (List ℕ)) (l : List ℕ) → concat (lines ++ l ∷ []) ≡ concat lines ++ l
 concat-push [] l = append-nil l
 concat-push (m ∷ ms) l = ap (λ t. m ++ t) (concat-push ms l) ∙ sym (append_assoc m (concat ms) l)
 
+-- the same for the next text of a list
 pub concat-more : (lines : List (List ℕ)) (i : ℕ) (l : List ℕ) → i < length lines → l ≡ get_or lines i l → concat (take (i + 1) lines) ≡ concat (take i lines) ++ l
 concat-more lines i l in' is = ap concat (take_more lines i l in' ∙ ap (λ m. take i lines ++ m ∷ []) (sym is)) ∙ concat-push (take i lines) l
 

@@ -20,6 +20,7 @@ use Rattle.nquads.specs.contracts.quads.TextQuadOrd.TheImpl.Laws.{total-law}
 abbrev text_cmp : List ℕ → List ℕ → Ordering
 text_cmp = slice_cmp nat_cmp
 
+-- the order of text quads: by subject, predicate, object and graph
 abbrev pub quad_cmp : TextQuad → TextQuad → Ordering
 quad_cmp x y = ordering_then (text_cmp x.subject y.subject) (ordering_then (text_cmp x.predicate y.predicate) (ordering_then (text_cmp x.object y.object) (option_cmp text_cmp x.graph y.graph)))
 

@@ -38,17 +38,21 @@ same_kind-itself by_node = refl
 same_kind-itself by_graph = refl
 same_kind-itself by_cell = refl
 
+-- blank nodes that are found the same are one
 pub same_blank-true : (a b : Blank) → same_blank a b ≡ true → a ≡ b
 same_blank-true a b e =
     let parts : (same_kind a.kind b.kind ≡ true) × (bytes_eq a.name b.name ≡ true) = and_parts (same_kind a.kind b.kind) (bytes_eq a.name b.name) e in
     same_blank_node a b (same_kind-true a.kind b.kind parts.0) ((bytes_eq-Decides a.name b.name).0 parts.1)
 
+-- a blank node is found the same as itself
 pub same_blank-itself : (a : Blank) → same_blank a a ≡ true
 same_blank-itself a = rw (same_kind-itself a.kind, (bytes_eq-Decides a.name a.name).1 refl) refl
 
+-- and two are found apart
 pub same_blank-false : (a b : Blank) → same_blank a b ≡ false → a ≡ b → ⊥
 same_blank-false a b n e = false≢true (sym n ∙ subst (λ (z : Blank). same_blank a z ≡ true) e (same_blank-itself a))
 
+-- a choice whose both sides are z
 pub chosen : {X : Type 0} (t : Bool) (x y z : X) → (t ≡ true → x ≡ z) → (t ≡ false → y ≡ z) → (if t then x else y) ≡ z
 chosen true x y z p q = p refl
 chosen false x y z p q = q refl
@@ -64,6 +68,7 @@ rename_graph-rename_graph : (f g h : Blank → Blank) (t : Option Term) → ((b 
 rename_graph-rename_graph f g h None p = refl
 rename_graph-rename_graph f g h (Some t) p = ap (λ (z : Term). Some z) (rename_term-rename_term f g h t p)
 
+-- two renamings, one after the other
 pub rename-rename : (f g h : Blank → Blank) (s : Statement) → ((b : Blank) → Contains (blanks_of s) b → f (g b) ≡ h b) → rename f (rename g s) ≡ rename h s
 rename-rename f g h s p =
     same_statement (rename f (rename g s)) (rename h s)
@@ -81,21 +86,26 @@ rename_graph-itself : (t : Option Term) → option_map (rename_term (λ b. b)) t
 rename_graph-itself None = refl
 rename_graph-itself (Some t) = ap (λ (z : Term). Some z) (rename_term-itself t)
 
+-- the renaming that leaves all as it is
 pub rename-itself : (s : Statement) → rename (λ b. b) s ≡ s
 rename-itself s = same_statement (rename (λ b. b) s) s (rename_term-itself s.subject) refl (rename_term-itself s.object) (rename_graph-itself s.graph)
 
+-- renamings that agree on the blank nodes of a statement
 pub rename-agree : (f g : Blank → Blank) (s : Statement) → ((b : Blank) → Contains (blanks_of s) b → f b ≡ g b) → rename f s ≡ rename g s
 rename-agree f g s p = ap (rename f) (sym (rename-itself s)) ∙ rename-rename f (λ b. b) g s p
 
-blanks_of_term-rename : (f : Blank → Blank) (t : Term) → blanks_of_term (rename_term f t) ≡ map f (blanks_of_term t)
+-- the blank nodes of a renamed term, graph and statement
+pub blanks_of_term-rename : (f : Blank → Blank) (t : Term) → blanks_of_term (rename_term f t) ≡ map f (blanks_of_term t)
 blanks_of_term-rename f (iri x) = refl
 blanks_of_term-rename f (literal s x k) = refl
 blanks_of_term-rename f (blank b) = refl
 
-blanks_of_graph-rename : (f : Blank → Blank) (t : Option Term) → blanks_of_graph (option_map (rename_term f) t) ≡ map f (blanks_of_graph t)
+-- the same of a graph
+pub blanks_of_graph-rename : (f : Blank → Blank) (t : Option Term) → blanks_of_graph (option_map (rename_term f) t) ≡ map f (blanks_of_graph t)
 blanks_of_graph-rename f None = refl
 blanks_of_graph-rename f (Some t) = blanks_of_term-rename f t
 
+-- and of a statement
 pub blanks_of-rename : (f : Blank → Blank) (s : Statement) → blanks_of (rename f s) ≡ map f (blanks_of s)
 blanks_of-rename f s =
     rw (
@@ -108,10 +118,12 @@ blanks_of-rename f s =
 
 -- ---- the blank nodes of a dataset, each once
 
+-- whether the blank node is in the list
 pub has : List Blank → Blank → Bool
 has [] b = false
 has (c ∷ cs) b = if same_blank c b then true else has cs b
 
+-- the blank nodes, each once
 pub distinct : List Blank → List Blank
 distinct [] = []
 distinct (b ∷ bs) = if has bs b then distinct bs else b ∷ distinct bs
@@ -120,6 +132,7 @@ has_cases : (t r : Bool) (c b : Blank) (cs : List Blank) → (t ≡ true → c �
 has_cases true r c b cs p q e = subst (λ (z : Blank). Contains (c ∷ cs) z) (p refl) (Contains-here c cs)
 has_cases false r c b cs p q e = Contains-there c cs b (q e)
 
+-- `has` finds what is there
 pub has-true : (cs : List Blank) (b : Blank) → has cs b ≡ true → Contains cs b
 unfolding has
 has-true [] b e = absurd (false≢true e)
@@ -129,6 +142,7 @@ hasnt_cases : (t r : Bool) (c b : Blank) (cs : List Blank) → (t ≡ false → 
 hasnt_cases true r c b cs p q e m = false≢true (sym e)
 hasnt_cases false r c b cs p q e m = elim (Contains-cons_cases c cs b m) [ inl h ↦ p refl h | inr n ↦ q e n ]
 
+-- and nothing else
 pub has-false : (cs : List Blank) (b : Blank) → has cs b ≡ false → Contains cs b → ⊥
 unfolding has
 has-false [] b e m = Contains-nil b m
@@ -146,6 +160,7 @@ distinct_step false b bs ds x p h m =
       | inr n ↦ Contains-there b ds x (h x n)
     ]
 
+-- `distinct` keeps each
 pub distinct_keeps : (bs : List Blank) (x : Blank) → Contains bs x → Contains (distinct bs) x
 unfolding distinct
 distinct_keeps [] x m = m
@@ -159,6 +174,7 @@ undistinct_step false b bs ds x h m =
       | inr n ↦ Contains-there b bs x (h x n)
     ]
 
+-- and adds none
 pub from_distinct : (bs : List Blank) (x : Blank) → Contains (distinct bs) x → Contains bs x
 unfolding distinct
 from_distinct [] x m = m
@@ -168,6 +184,7 @@ differ_step : (t : Bool) (b : Blank) (ds : List Blank) → (t ≡ false → Cont
 differ_step true b ds n a = a
 differ_step false b ds n a = AllDiffer-cons b ds (n refl) a
 
+-- and has none twice
 pub AllDiffer-distinct : (bs : List Blank) → AllDiffer (distinct bs)
 unfolding distinct
 AllDiffer-distinct [] = AllDiffer-nil
@@ -179,6 +196,7 @@ pub record Stands (q : List Statement) (b : Blank) : Type 0 where
   pub within : Contains q statement
   pub blank_node : Contains (blanks_of statement) b
 
+-- a blank node of a statement of the dataset stands in the dataset
 pub to_blanks_in : (q : List Statement) (s : Statement) (b : Blank) → Contains q s → Contains (blanks_of s) b → StandsIn q b
 to_blanks_in [] s b m n = absurd (Contains-nil s m)
 to_blanks_in (t ∷ q) s b m n =
@@ -187,6 +205,7 @@ to_blanks_in (t ∷ q) s b m n =
       | inr k ↦ Contains-append_right (blanks_of t) (flat_map blanks_of q) b (to_blanks_in q s b k n)
     ]
 
+-- and what stands in it is one of a statement
 pub from_blanks_in : (q : List Statement) (b : Blank) → StandsIn q b → Stands q b
 from_blanks_in [] b m = absurd (Contains-nil b m)
 from_blanks_in (s ∷ q) b m =

@@ -7,6 +7,7 @@ use Rattle.nquads.specs.Renaming.{blanks_of, StandsIn}
 use Rattle.nquads.specs.Lines.{line, with_labels, HasLabels, IsLine, LabelsDiffer, canonical_lines, canonical_text}
 use Rattle.base_types.proofs.Lists.{Contains-map, Contains-from_map, Contains-cons_cases, Contains-nil}
 use Rattle.nquads.proofs.ReadingElements.{All-from_contains, from_rising, to_rising}
+use Rattle.nquads.proofs.ReadingBlanks.{to_blanks_in}
 use Rattle.nquads.proofs.ReadingLines.{line_one_reading, line_names_statement, IsLine-line, one_split}
 
 to_canonical_lines : (f : Blank → List ℕ) (q : List Statement) (s : Statement) → Contains q s → Contains (canonical_lines f q) (line f s)
@@ -15,12 +16,14 @@ to_canonical_lines f q s m = to_rising (map (line f) q) (line f s) (Contains-map
 from_canonical_lines : (f : Blank → List ℕ) (q : List Statement) (l : List ℕ) → Contains (canonical_lines f q) l → (s : Statement) × Contains q s × (line f s ≡ l)
 from_canonical_lines f q l m = Contains-from_map (line f) q l (from_rising (map (line f) q) l m)
 
+-- each canonical line is one line
 pub canonical_lines_are_lines : (f : Blank → List ℕ) (q : List Statement) → All IsStatement q → All (HasLabels f) q → All IsLine (canonical_lines f q)
 canonical_lines_are_lines f q i h =
     All-from_contains IsLine (canonical_lines f q)
     (λ l m. let r = from_canonical_lines f q l m in
     subst IsLine r.2 (IsLine-line f r.0 (All-contains IsStatement q r.0 i r.1) (All-contains (HasLabels f) q r.0 h r.1)))
 
+-- a canonical text determines its lines
 pub text_determines_lines : (f g : Blank → List ℕ) (q r : List Statement) → All IsStatement q → All IsStatement r → All (HasLabels f) q → All (HasLabels g) r → canonical_text f q ≡ canonical_text g r → canonical_lines f q ≡ canonical_lines g r
 text_determines_lines f g q r i j p n e =
     one_split (canonical_lines f q) (canonical_lines g r) (canonical_lines_are_lines f q i p) (canonical_lines_are_lines g r j n) e
@@ -32,20 +35,14 @@ found_again f g q r i j p n e t m =
     let same : with_labels g b.0 ≡ t = line_one_reading g f b.0 a.0 (All-contains IsStatement r b.0 j b.1) (All-contains IsStatement q a.0 i a.1) (All-contains (HasLabels g) r b.0 n b.1) (All-contains (HasLabels f) q a.0 p a.1) b.2 ∙ a.2 in
     subst (λ (z : Statement). Contains (map (with_labels g) r) z) same (Contains-map (with_labels g) r b.0 b.1)
 
+-- and with them the labelled statements
 pub text_determines_statements : (f g : Blank → List ℕ) (q r : List Statement) → All IsStatement q → All IsStatement r → All (HasLabels f) q → All (HasLabels g) r → canonical_text f q ≡ canonical_text g r → SameElements (map (with_labels f) q) (map (with_labels g) r)
 text_determines_statements f g q r i j p n e =
     let lines : canonical_lines f q ≡ canonical_lines g r = text_determines_lines f g q r i j p n e in
     λ t. (found_again f g q r i j p n lines t, found_again g f r q j i n p (sym lines) t)
 
-pub StandsIn-from_statement : (q : List Statement) (s : Statement) (b : Blank) → Contains q s → Contains (blanks_of s) b → StandsIn q b
-StandsIn-from_statement [] s b m n = absurd (Contains-nil s m)
-StandsIn-from_statement (t ∷ q) s b m n =
-    elim (Contains-cons_cases t q s m) [
-      | inl e ↦ Contains-append_left (blanks_of t) (flat_map blanks_of q) b (subst (λ (z : Statement). Contains (blanks_of z) b) (sym e) n)
-      | inr k ↦ Contains-append_right (blanks_of t) (flat_map blanks_of q) b (StandsIn-from_statement q s b k n)
-    ]
-
+-- in a dataset whose labels differ a line is that of one statement
 pub line_names_statement_in : (f : Blank → List ℕ) (q : List Statement) → All IsStatement q → All (HasLabels f) q → LabelsDiffer f q → (s t : Statement) → Contains q s → Contains q t → line f s ≡ line f t → s ≡ t
 line_names_statement_in f q i p d s t m n e =
     line_names_statement f s t (All-contains IsStatement q s i m) (All-contains IsStatement q t i n) (All-contains (HasLabels f) q s p m) (All-contains (HasLabels f) q t p n)
-    (λ a b x y k. d a b (StandsIn-from_statement q s a m x) (StandsIn-from_statement q t b n y) k) e
+    (λ a b x y k. d a b (to_blanks_in q s a m x) (to_blanks_in q t b n y) k) e

@@ -9,20 +9,25 @@ use Rattle.base_types.proofs.Rising.{rising-same}
 
 -- ---- membership
 
+-- what holds of each element that the list contains
 pub All-from_contains : {X : Type 0} (P : X → Type 0) (xs : List X) → ((x : X) → Contains xs x → P x) → All P xs
 All-from_contains P xs h = λ k d l. h (get_or xs k d) (Contains-get_or xs k d l)
 
 -- ---- no element twice, by the head and the tail
 
+-- no two elements of the empty list are one
 pub AllDiffer-nil : {X : Type 0} → AllDiffer {X = X} []
 AllDiffer-nil = λ i j d l m. absurd (not-suc-le-zero m)
 
+-- the first element is not among the others
 pub AllDiffer-head : {X : Type 0} (x : X) (xs : List X) → AllDiffer (x ∷ xs) → Contains xs x → ⊥
 AllDiffer-head x xs a m = a zero (suc m.0) x (zero-lt-suc m.0) (suc-le-suc m.1) (sym m.2)
 
+-- the others differ
 pub AllDiffer-tail : {X : Type 0} (x : X) (xs : List X) → AllDiffer (x ∷ xs) → AllDiffer xs
 AllDiffer-tail x xs a = λ i j d l m. a (suc i) (suc j) d (suc-le-suc l) (suc-le-suc m)
 
+-- one more element that is not among them
 pub AllDiffer-cons : {X : Type 0} (x : X) (xs : List X) → (Contains xs x → ⊥) → AllDiffer xs → AllDiffer (x ∷ xs)
 AllDiffer-cons {X} x xs n a = go
   where
@@ -32,6 +37,7 @@ AllDiffer-cons {X} x xs n a = go
     go (suc i) zero d l m e = not-suc-le-zero l
     go (suc i) (suc j) d l m e = a i j d (le_of_suc-le-suc l) (le_of_suc-le-suc m) e
 
+-- a map that is one to one on the elements
 pub AllDiffer-map : {X Y : Type 0} (f : X → Y) (xs : List X) → ((x y : X) → Contains xs x → Contains xs y → f x ≡ f y → x ≡ y) → AllDiffer xs → AllDiffer (map f xs)
 AllDiffer-map f [] o a = AllDiffer-nil
 AllDiffer-map f (x ∷ xs) o a =
@@ -43,8 +49,10 @@ AllDiffer-map f (x ∷ xs) o a =
 
 -- ---- texts in order hold what was put in order
 
+-- what stands in the sorted set stood in the list
 pub from_rising : (ts : List (List ℕ)) (x : List ℕ) → Contains (sorted_set ts) x → Contains ts x
 from_rising ts x = (rising-same ts x).0
 
+-- and the other way round
 pub to_rising : (ts : List (List ℕ)) (x : List ℕ) → Contains ts x → Contains (sorted_set ts) x
 to_rising ts x = (rising-same ts x).1

@@ -61,6 +61,7 @@ itself c r e = rw e refl
 small : (c : ℕ) → (nat_lt c 32 || (c == 127)) ≡ true → c < 128
 small c e = elim (or_cases (nat_lt c 32) (c == 127) e) [ inl p ↦ omega (arith, ltb-true c 32 p) | inr p ↦ omega (arith, eqb-true c 127 p) ]
 
+-- the reader gives back the byte that was escaped
 pub read_byte-escape : (c : ℕ) (r : List ℕ) → read_byte (escape c ++ r) ≡ (c, r)
 read_byte-escape c r =
     branch c (c == 8) _ _ r (named c 8 98 r refl) (λ n1.
@@ -104,6 +105,7 @@ hex_digit_above n e = go (nat_lt n 10) refl
 two_marks : (m : ℕ) → 10 < m → Absent 10 (92 ∷ m ∷ [])
 two_marks m l = (omega arith, (omega arith, tt))
 
+-- no byte is written with LF
 pub escape_absent : (c : ℕ) → Absent 10 (escape c)
 escape_absent c =
     if_absent 10 (c == 8) _ _ (two_marks 98 (lit< tt)) (λ n1.
@@ -116,6 +118,7 @@ escape_absent c =
     if_absent 10 (nat_lt c 32 || (c == 127)) _ _ (omega arith, (omega arith, (omega arith, (omega arith, (hex_digit_above (c / 16), (hex_digit_above (c % 16), tt)))))) (λ n8.
     ((λ e. eqb-false c 10 n3 (sym e)), tt)))))))))
 
+-- and so no text
 pub quoted_absent : (xs : List ℕ) → Absent 10 (flat_map escape xs)
 quoted_absent [] = tt
 quoted_absent (x ∷ xs) = Absent-append 10 (escape x) (flat_map escape xs) (escape_absent x) (quoted_absent xs)

@@ -38,6 +38,7 @@ in_parts : (f : Blank → List ℕ) (s : Statement) → line f s ≡ term_text f
 unfolding after_object after_predicate after_subject
 in_parts f s = simp append_assoc
 
+-- a line has one reading
 pub line_one_reading : (f g : Blank → List ℕ) (s t : Statement) → IsStatement s → IsStatement t → HasLabels f s → HasLabels g t → line f s ≡ line g t → with_labels f s ≡ with_labels g t
 unfolding after_object after_predicate after_subject
 line_one_reading f g s t i j p q e =
@@ -83,6 +84,7 @@ graph_from_renamed h (Some a) (Some b) p e =
     let same : rename_term h a ≡ rename_term h b = cc in
     ap (λ (t : Term). Some t) (term_from_renamed h a b p same)
 
+-- a renaming that is one to one on the blank nodes of two statements tells them apart
 pub statement_from_renamed : (h : Blank → Blank) (s t : Statement) → ((a b : Blank) → Contains (blanks_of s) a → Contains (blanks_of t) b → h a ≡ h b → a ≡ b) → rename h s ≡ rename h t → s ≡ t
 statement_from_renamed h s t p e =
     same_statement s t
@@ -97,6 +99,7 @@ statement_from_renamed h s t p e =
     (λ a b m n. p a b (Contains-append_right (blanks_of_term s.subject) (blanks_of_term s.object ++ blanks_of_graph s.graph) a (Contains-append_right (blanks_of_term s.object) (blanks_of_graph s.graph) a m)) (Contains-append_right (blanks_of_term t.subject) (blanks_of_term t.object ++ blanks_of_graph t.graph) b (Contains-append_right (blanks_of_term t.object) (blanks_of_graph t.graph) b n)))
     (ap (λ (q : Statement). q.graph) e))
 
+-- labels that differ tell two statements apart by their lines
 pub line_names_statement : (f : Blank → List ℕ) (s t : Statement) → IsStatement s → IsStatement t → HasLabels f s → HasLabels f t → ((a b : Blank) → Contains (blanks_of s) a → Contains (blanks_of t) b → f a ≡ f b → a ≡ b) → line f s ≡ line f t → s ≡ t
 line_names_statement f s t i j p q o e = statement_from_renamed (named f) s t (λ a b m n k. o a b m n (ap (λ (z : Blank). z.name) k)) (line_one_reading f f s t i j p q e)
 
@@ -144,6 +147,7 @@ front_absent s p o g a b c d =
       ),
     )
 
+-- a line is one line
 pub IsLine-line : (f : Blank → List ℕ) (s : Statement) → IsStatement s → HasLabels f s → IsLine (line f s)
 IsLine-line f s i p =
     let absent : Absent 10 (front_of (term_text f s.subject) (iri_text s.predicate) (term_text f s.object) (graph_text f s.graph)) =
@@ -174,6 +178,7 @@ empty_apart l r i e = front_apart i.front r (e ∙ ap (λ (t : List ℕ). t ++ r
     front_apart [] ys e = cc
     front_apart (x ∷ xs) ys e = cc
 
+-- joined lines have one split
 pub one_split : (ls ms : List (List ℕ)) → All IsLine ls → All IsLine ms → concat ls ≡ concat ms → ls ≡ ms
 one_split [] [] a b e = refl
 one_split [] (m ∷ ms) a b e = absurd (empty_apart m (concat ms) (All-head IsLine m ms b) e)

@@ -82,6 +82,7 @@ applied_at (x ∷ xs) p a m =
 swapped : Pair → Pair
 swapped p = record { from = p.to; to = p.from }
 
+-- the renaming the other way round
 pub back : List Pair → List Pair
 back [] = []
 back (p ∷ ps) = swapped p ∷ back ps
@@ -110,6 +111,7 @@ applied_back r b i m =
     let undone : image (back r) p.to ≡ p.from = applied_at (back r) (swapped p) (subst (λ (z : List Blank). AllDiffer z) (sym (back_from r)) i.targets) (back-contains r p found.1) in
     ap (image (back r)) to ∙ undone ∙ found.2
 
+-- a renaming names each blank node of its dataset
 pub named_at : (q r : List Statement) (e : Same q r) (b : Blank) → Stands q b → Contains (map (λ (p : Pair). p.from) e.pairs) b
 named_at q r e b s =
     All-contains (Contains (map (λ (p : Pair). p.from) e.pairs)) (blanks_of s.statement) b
@@ -118,6 +120,7 @@ named_at q r e b s =
 undone_at : (q r : List Statement) (e : Same q r) (b : Blank) → Stands q b → image (back e.pairs) (image e.pairs b) ≡ b
 undone_at q r e b s = applied_back e.pairs b e.renaming (named_at q r e b s)
 
+-- a renaming is one to one on its dataset
 pub Same-one_to_one : (q r : List Statement) (e : Same q r) → OneToOneOn (image e.pairs) q
 Same-one_to_one q r e a b s t k = sym (undone_at q r e a s) ∙ ap (image (back e.pairs)) k ∙ undone_at q r e b t
 
@@ -131,6 +134,7 @@ came_from h q r e c s =
 
 -- ---- an equivalence
 
+-- equal sets are the same
 pub Same-from_elements : (q r : List Statement) → SameElements q r → Same q r
 Same-from_elements q r e =
     Same-from_map (λ b. b) q r (λ a b s t k. k)
@@ -142,9 +146,11 @@ Same-from_elements q r e =
     fro : (t : Statement) → Contains q t → Contains (map (rename (λ b. b)) q) t
     fro t m = subst (λ (z : Statement). Contains (map (rename (λ b. b)) q) z) (rename-itself t) (Contains-map (rename (λ b. b)) q t m)
 
+-- a dataset is the same as itself
 pub Same-refl : (q : List Statement) → Same q q
 Same-refl q = Same-from_elements q q (λ t. ((λ m. m), (λ m. m)))
 
+-- the same the other way round
 pub Same-sym : (q r : List Statement) → Same q r → Same r q
 Same-sym q r e =
     Same-from_map (image (back e.pairs)) r q one (λ t. (to t, fro t))
@@ -172,6 +178,7 @@ Same-sym q r e =
         subst (λ (z : Statement). Contains (map (rename (image (back e.pairs))) r) z) (undone t m)
         (Contains-map (rename (image (back e.pairs))) r (rename (image e.pairs) t) ((e.elements (rename (image e.pairs) t)).0 (Contains-map (rename (image e.pairs)) q t m)))
 
+-- the same as the same
 pub Same-trans : (q r u : List Statement) → Same q r → Same r u → Same q u
 Same-trans q r u e k =
     Same-from_map (λ b. image k.pairs (image e.pairs b)) q u one (λ t. (to t, fro t))
@@ -205,10 +212,12 @@ Same-trans q r u e k =
 
 -- ---- the laws, in the words of specs/
 
+-- a map that is one to one makes the same dataset
 pub Same-from_one_to_one : (f : Blank → Blank) (q r : List Statement) → IsOneToOne f q → SameElements (map (rename f) q) r → Same q r
 Same-from_one_to_one f q r o e =
     Same-from_map f q r (λ a b s t k. o a b (to_blanks_in q s.statement a s.within s.blank_node) (to_blanks_in q t.statement b t.within t.blank_node) k) e
 
+-- and each sameness comes from one
 pub one_to_one-from_Same : (q r : List Statement) (e : Same q r) → IsOneToOne (image e.pairs) q
 one_to_one-from_Same q r e a b m n k = Same-one_to_one q r e a b (from_blanks_in q a m) (from_blanks_in q b n) k
 
@@ -228,6 +237,7 @@ graph-rename : (h : Blank → Blank) (g : Option Term) → IfSome g IsResource �
 graph-rename h None i = i
 graph-rename h (Some t) i = IsResource-rename h t i
 
+-- a renamed statement is well formed
 pub IsStatement-rename : (h : Blank → Blank) (s : Statement) → IsStatement s → IsStatement (rename h s)
 IsStatement-rename h s i = record {
   subject = IsResource-rename h s.subject i.subject;
@@ -236,11 +246,13 @@ IsStatement-rename h s i = record {
   graph = graph-rename h s.graph i.graph;
 }
 
+-- a renamed dataset has no repeats
 pub IsDataset-rename : (h : Blank → Blank) (q : List Statement) → IsOneToOne h q → IsDataset q → IsDataset (map (rename h) q)
 IsDataset-rename h q o d =
     AllDiffer-map (rename h) q
     (λ s t m n e. statement_from_renamed h s t (λ a b x y k. o a b (to_blanks_in q s a m x) (to_blanks_in q t b n y) k) e) d
 
+-- the same datasets are well formed together
 pub IsStatement-from_Same : (q r : List Statement) → Same q r → All IsStatement q → All IsStatement r
 IsStatement-from_Same q r e i =
     All-from_contains IsStatement r

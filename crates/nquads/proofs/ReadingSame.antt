@@ -22,6 +22,7 @@ Same-labelled f q d =
     (λ a b s t k. d a b (to_blanks_in q s.statement a s.within s.blank_node) (to_blanks_in q t.statement b t.within t.blank_node) (ap (λ (z : Blank). z.name) k))
     (λ t. ((λ m. m), (λ m. m)))
 
+-- one canonical text is that of one dataset, up to blank nodes
 pub text_determines_dataset : (f g : Blank → List ℕ) (q r : List Statement) → All IsStatement q → All IsStatement r → All (HasLabels f) q → All (HasLabels g) r → LabelsDiffer f q → LabelsDiffer g r → canonical_text f q ≡ canonical_text g r → Same q r
 text_determines_dataset f g q r i j p n c d e =
     Same-trans q (map (with_labels f) q) r (Same-labelled f q c)
@@ -40,6 +41,7 @@ graph_text-rename : (f : Blank → List ℕ) (h : Blank → Blank) (g : Option T
 graph_text-rename f h None = refl
 graph_text-rename f h (Some t) = ap (λ (z : List ℕ). z ++ codes " ") (term_text-rename f h t)
 
+-- a renamed statement's line
 pub line-rename : (f : Blank → List ℕ) (h : Blank → Blank) (s : Statement) → line f (rename h s) ≡ line (λ b. f (h b)) s
 line-rename f h s =
     ap (λ (z : List ℕ). line_text z (iri_text s.predicate) (term_text f (rename_term h s.object)) (graph_text f (option_map (rename_term h) s.graph))) (term_text-rename f h s.subject)
@@ -61,9 +63,11 @@ carried f h q r e l = (to, fro)
         let origin = Contains-from_map (rename h) q found.0 ((e found.0).1 found.1) in
         subst (λ (z : List ℕ). Contains (map (line (λ b. f (h b))) q) z) (sym (line-rename f h origin.0) ∙ ap (line f) origin.2 ∙ found.2) (Contains-map (line (λ b. f (h b))) q origin.0 origin.1)
 
+-- a renamed dataset's canonical text
 pub text_carried : (f : Blank → List ℕ) (h : Blank → Blank) (q r : List Statement) → SameElements (map (rename h) q) r → canonical_text (λ b. f (h b)) q ≡ canonical_text f r
 text_carried f h q r e = ap concat (rising-free (map (line (λ b. f (h b))) q) (map (line f) r) (carried f h q r e))
 
+-- the same dataset's canonical text
 pub text_from_Same : (f : Blank → List ℕ) (q r : List Statement) (e : Same q r) → canonical_text f r ≡ canonical_text (λ b. f (image e.pairs b)) q
 text_from_Same f q r e = sym (text_carried f (image e.pairs) q r e.elements)
 

@@ -4,7 +4,7 @@ use Rattle.std.proofs.lemmas.Bool.{false≢true}
 use Rattle.std.proofs.lemmas.Slice.Eq.{bytes_eq-Decides}
 use Rattle.std.proofs.lemmas.List.Elements.{All-head, All-tail}
 use Rattle.std.specs.List.{flat_map}
-use Rattle.nquads.specs.Terms.{BlankKind, by_label, by_node, by_graph, by_cell, Blank, Term, iri, literal, blank, Statement, HasIriCharacters, IsLanguage, IsLabel, IsTerm, IsResource, IsStatement, is_forbidden, is_letter, is_digit, is_label_character, xsd_string}
+use Rattle.nquads.specs.Terms.{BlankKind, by_label, by_node, by_graph, by_cell, Blank, Term, iri, literal, blank, Statement, HasIriCharacters, IsLanguage, IsLanguageGroup, IsLabel, IsTerm, IsResource, IsStatement, is_forbidden, is_letter, is_digit, is_label_character, xsd_string}
 use Rattle.nquads.specs.Renaming.{blanks_of_term, rename_term}
 use Rattle.nquads.specs.Spelling.{escape, iri_text, literal_end, literal_text, kind_letter, blank_text, spelling, text_quad}
 use Rattle.nquads.specs.Lines.{term_text}
@@ -14,21 +14,24 @@ use Rattle.nquads.proofs.ReadingEscapes.{quoted_one_reading}
 
 -- ---- bytes that a part does not hold
 
+-- an IRI holds no forbidden byte
 pub iri_absent : (c : ℕ) (text : List ℕ) → is_forbidden c ≡ true → HasIriCharacters text → Absent c text
 iri_absent c text f i = Absent-tested is_forbidden false c text (λ e. true≢false (sym f ∙ e)) i
 
+-- a label holds only its characters
 pub label_absent : (c : ℕ) (text : List ℕ) → is_label_character c ≡ false → IsLabel text → Absent c text
 label_absent c text f l = Absent-tested is_label_character true c text (λ e. false≢true (sym f ∙ e)) l.characters
 
-groups_absent : (c : ℕ) (groups : List (List ℕ)) → (c ≢ 45) → (is_letter c || is_digit c) ≡ false → All (λ g. (g ≢ []) × All (λ x. (is_letter x || is_digit x) ≡ true) g) groups → Absent c (flat_map (λ g. 45 ∷ g) groups)
+groups_absent : (c : ℕ) (groups : List (List ℕ)) → (c ≢ 45) → (is_letter c || is_digit c) ≡ false → All IsLanguageGroup groups → Absent c (flat_map (λ g. 45 ∷ g) groups)
 groups_absent c [] n f a = tt
 groups_absent c (g ∷ gs) n f a = (
   n,
   Absent-append c g (flat_map (λ g. 45 ∷ g) gs)
-      (Absent-tested (λ x. is_letter x || is_digit x) true c g (λ e. false≢true (sym f ∙ e)) (All-head (λ g. (g ≢ []) × All (λ x. (is_letter x || is_digit x) ≡ true) g) g gs a).1)
-      (groups_absent c gs n f (All-tail (λ g. (g ≢ []) × All (λ x. (is_letter x || is_digit x) ≡ true) g) g gs a)),
+      (Absent-tested (λ x. is_letter x || is_digit x) true c g (λ e. false≢true (sym f ∙ e)) (All-head IsLanguageGroup g gs a).1)
+      (groups_absent c gs n f (All-tail IsLanguageGroup g gs a)),
 )
 
+-- a language tag holds only letters, digits and `-`
 pub language_absent : (c : ℕ) (text : List ℕ) → (c ≢ 45) → is_letter c ≡ false → is_digit c ≡ false → IsLanguage text → Absent c text
 language_absent c text n l d i =
     rw i.is (Absent-append c i.first (flat_map (λ g. 45 ∷ g) i.groups)
@@ -41,6 +44,7 @@ abbrev tail : List ℕ → List ℕ
 tail [] = []
 tail (x ∷ xs) = xs
 
+-- an IRI, a space and what follows have one reading
 pub iri_then : (x y r u : List ℕ) → HasIriCharacters x → HasIriCharacters y → iri_text x ++ 32 ∷ r ≡ iri_text y ++ 32 ∷ u → (x ≡ y) × (r ≡ u)
 iri_then x y r u i j e =
     let tails : (x ++ 62 ∷ []) ++ 32 ∷ r ≡ (y ++ 62 ∷ []) ++ 32 ∷ u = cc in
@@ -77,6 +81,7 @@ end_then x y r u (Some k) (Some l) i j e =
 quoted : (s end r : List ℕ) → ((s ++ 34 ∷ []) ++ end) ++ 32 ∷ r ≡ s ++ 34 ∷ (end ++ 32 ∷ r)
 quoted s end r = append_assoc (s ++ 34 ∷ []) end (32 ∷ r) ∙ append_assoc s (34 ∷ []) (end ++ 32 ∷ r)
 
+-- so has a literal
 pub literal_then : (s t x y r u : List ℕ) (k l : Option (List ℕ)) → IsTerm (literal s x k) → IsTerm (literal t y l) → literal_text s x k ++ 32 ∷ r ≡ literal_text t y l ++ 32 ∷ u → (literal s x k ≡ literal t y l) × (r ≡ u)
 literal_then s t x y r u k l i j e =
     let whole : flat_map escape s ++ 34 ∷ (literal_end x k ++ 32 ∷ r) ≡ flat_map escape t ++ 34 ∷ (literal_end y l ++ 32 ∷ u) = sym (quoted (flat_map escape s) (literal_end x k) r) ∙ ap tail e ∙ quoted (flat_map escape t) (literal_end y l) u in
@@ -91,6 +96,7 @@ literal_then s t x y r u k l i j e =
 abbrev pub named : (Blank → List ℕ) → Blank → Blank
 named label b = record { kind = by_label; name = label b }
 
+-- so has a term
 pub term_then : (f g : Blank → List ℕ) (s t : Term) (r u : List ℕ) → IsTerm s → IsTerm t → ((b : Blank) → Contains (blanks_of_term s) b → IsLabel (f b)) → ((b : Blank) → Contains (blanks_of_term t) b → IsLabel (g b)) → term_text f s ++ 32 ∷ r ≡ term_text g t ++ 32 ∷ u → (rename_term (named f) s ≡ rename_term (named g) t) × (r ≡ u)
 term_then f g (iri x) (iri y) r u i j p q e =
     let parts : (x ≡ y) × (r ≡ u) = iri_then x y r u i j e in
@@ -127,15 +133,18 @@ kind_letter_once by_cell by_node e = absurd (omega arith)
 kind_letter_once by_cell by_graph e = absurd (omega arith)
 kind_letter_once by_cell by_cell e = refl
 
+-- blank nodes with one kind and one name are one
 pub same_blank_node : (a b : Blank) → a.kind ≡ b.kind → a.name ≡ b.name → a ≡ b
 same_blank_node a b p q = λ i. record { kind = p i; name = q i }
 
+-- a blank node's text has one reading
 pub blank_text_one_reading : (a b : Blank) → blank_text a ≡ blank_text b → a ≡ b
 blank_text_one_reading a b e =
     let letter : kind_letter a.kind ≡ kind_letter b.kind = cc in
     let name : a.name ≡ b.name = cc in
     same_blank_node a b (kind_letter_once a.kind b.kind letter) name
 
+-- a spelling has one reading
 pub spelling_one_reading : (s t : Term) → IsTerm s → IsTerm t → spelling s ≡ spelling t → s ≡ t
 spelling_one_reading (iri x) (iri y) i j e = ap iri (iri_then x y [] [] i j (ap (λ (text : List ℕ). text ++ 32 ∷ []) e)).0
 spelling_one_reading (iri x) (literal t y l) i j e = absurd (apart 60 34 _ _ refl e)
@@ -149,11 +158,13 @@ spelling_one_reading (blank a) (blank b) i j e = ap blank (blank_text_one_readin
 
 -- ---- statements
 
+-- a resource is a term
 pub IsTerm-from_resource : (t : Term) → IsResource t → IsTerm t
 IsTerm-from_resource (iri x) i = i
 IsTerm-from_resource (literal s x k) i = absurd i
 IsTerm-from_resource (blank b) i = tt
 
+-- statements with the same parts are one
 pub same_statement : (s t : Statement) → s.subject ≡ t.subject → s.predicate ≡ t.predicate → s.object ≡ t.object → s.graph ≡ t.graph → s ≡ t
 same_statement s t p q o g = λ i. record { subject = p i; predicate = q i; object = o i; graph = g i }
 
@@ -165,6 +176,7 @@ graph_spelling (Some a) (Some b) i j e =
     let same : spelling a ≡ spelling b = cc in
     ap (λ (t : Term). Some t) (spelling_one_reading a b (IsTerm-from_resource a i) (IsTerm-from_resource b j) same)
 
+-- a text quad has one reading
 pub spelled_one_reading : (s t : Statement) → IsStatement s → IsStatement t → text_quad s ≡ text_quad t → s ≡ t
 spelled_one_reading s t i j e =
     same_statement s t

@@ -12,6 +12,7 @@ abbrev pub Absent : ℕ → List ℕ → Type 0
 Absent c [] = Unit {0}
 Absent c (x ∷ xs) = (c ≢ x) × Absent c xs
 
+-- a byte in neither part is not in both
 pub Absent-append : (c : ℕ) (xs ys : List ℕ) → Absent c xs → Absent c ys → Absent c (xs ++ ys)
 Absent-append c [] ys p q = q
 Absent-append c (x ∷ xs) ys p q = (p.0, Absent-append c xs ys p.1 q)
@@ -33,11 +34,13 @@ Absent-tested test b c [] n a = tt
 Absent-tested test b c (x ∷ xs) n a =
     ((λ e. n (ap test e ∙ All-head (λ x. test x ≡ b) x xs a)), Absent-tested test b c xs n (All-tail (λ x. test x ≡ b) x xs a))
 
+-- an absent byte is not contained
 pub Absent-contains : (c : ℕ) (xs : List ℕ) → Absent c xs → Contains xs c → ⊥
 Absent-contains c [] p m = absurd (not-suc-le-zero m.1)
 Absent-contains c (x ∷ xs) p (zero, l, e) = p.0 (sym e)
 Absent-contains c (x ∷ xs) p (suc k, l, e) = Absent-contains c xs p.1 (k, le_of_suc-le-suc l, e)
 
+-- and the other way round
 pub Absent-from : (c : ℕ) (xs : List ℕ) → (Contains xs c → ⊥) → Absent c xs
 Absent-from c [] n = tt
 Absent-from c (x ∷ xs) n =

@@ -18,11 +18,12 @@ each_once same (x ∷ xs) = x ∷ filter (λ y. not (same x y)) (each_once same 
 abbrev pub blanks : List Statement → List Blank
 blanks q = each_once same_blank (flat_map blanks_of q)
 
--- whether the blank node stands in the statement, as subject, object or graph
+-- whether the statement mentions the blank node, as subject, object or graph
 abbrev pub mentions : Blank → Statement → Bool
 mentions n s = list_any (same_blank n) (blanks_of s)
 
--- a blank node's statements, each once however often it stands in them. -- RDF Canonicalization, 4.4.3, step 2
+-- a blank node's mention set: its statements, each once however often they mention it.
+-- RDF Canonicalization, 4.4.3, step 2
 abbrev pub mention_set : List Statement → Blank → List Statement
 mention_set q n = filter (mentions n) q
 
@@ -39,7 +40,14 @@ first_degree_hash digest q n = digest (concat (in_order (map (line (mark n)) (me
 abbrev pub blank_hash : List ℕ → List ℕ → BlankHash
 blank_hash blank hash = record { blank = blank; hash = hash }
 
+-- it is the hash of a blank node of the dataset
+abbrev pub IsFirstHash : (List ℕ → List ℕ) → List Statement → BlankHash → Type 0
+IsFirstHash digest q h =
+    (n : Blank) × StandsIn q n
+    × (h ≡ blank_hash (blank_text n) (first_degree_hash digest q n))
+
 -- The list names each blank node of the dataset once, with its first-degree hash.
-pub record AreFirstHashes (digest : List ℕ → List ℕ) (q : List Statement) (hashes : List BlankHash) : Type 0 where
+pub record AreFirstHashes (digest : List ℕ → List ℕ) (q : List Statement) (hashes : List BlankHash)
+    : Type 0 where
   pub once : AllDiffer (map (λ (h : BlankHash). h.blank) hashes)
-  pub exact : HasExactly hashes (λ h. (n : Blank) × StandsIn q n × (h ≡ blank_hash (blank_text n) (first_degree_hash digest q n)))
+  pub exact : HasExactly hashes (IsFirstHash digest q)

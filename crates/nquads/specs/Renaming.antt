@@ -41,7 +41,12 @@ rename_term f (literal text datatype language) = literal text datatype language
 rename_term f (blank b) = blank (f b)
 
 abbrev pub rename : (Blank → Blank) → Statement → Statement
-rename f s = record { subject = rename_term f s.subject; predicate = s.predicate; object = rename_term f s.object; graph = option_map (rename_term f) s.graph }
+rename f s = record {
+  subject = rename_term f s.subject;
+  predicate = s.predicate;
+  object = rename_term f s.object;
+  graph = option_map (rename_term f) s.graph;
+}
 
 -- no two blank nodes of the dataset are sent to one
 abbrev pub IsOneToOne : (Blank → Blank) → List Statement → Type 0

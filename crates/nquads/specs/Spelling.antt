@@ -14,9 +14,9 @@ hex_digit n = if nat_lt n 10 then 48 + n else 55 + n
 abbrev pub hex_escape : ℕ → List ℕ
 hex_escape c = codes "\\u00" ++ hex_digit (c / 16) ∷ hex_digit (c % 16) ∷ []
 
--- A byte of a literal's text: \b \t \n \f \r \" \\, \u00XX for the other controls and for U+007F, and
--- itself otherwise. (The canonical form escapes U+FFFE and U+FFFF too; texts that hold them are refused
--- before they come here.)
+-- A byte of a literal's text: \b \t \n \f \r \" \\, \u00XX for the other controls and for U+007F,
+-- and itself otherwise. (The canonical form escapes U+FFFE and U+FFFF too; texts that hold them are
+-- refused before they come here.)
 abbrev pub escape : ℕ → List ℕ
 escape c =
     if c == 8 then codes "\\b"
@@ -33,18 +33,20 @@ escape c =
 abbrev pub iri_text : List ℕ → List ℕ
 iri_text text = codes "<" ++ text ++ codes ">"
 
--- what follows the quoted text: `@` and the language, or `^^` and the datatype, which is left out where
--- it is xsd:string
+-- what follows the quoted text: `@` and the language, or `^^` and the datatype, which is left out
+-- where it is xsd:string
 abbrev pub literal_end : List ℕ → Option (List ℕ) → List ℕ
 literal_end datatype (Some language) = codes "@" ++ language
-literal_end datatype None = if bytes_eq datatype xsd_string then [] else codes "^^" ++ iri_text datatype
+literal_end datatype None =
+    if bytes_eq datatype xsd_string then [] else codes "^^" ++ iri_text datatype
 
 -- the canonical literal
 abbrev pub literal_text : List ℕ → List ℕ → Option (List ℕ) → List ℕ
 literal_text text datatype language =
     codes "\"" ++ flat_map escape text ++ codes "\"" ++ literal_end datatype language
 
--- a letter for each kind of name, `n`, `o`, `g` and `c`, so that names of two kinds are never one text
+-- a letter for each kind of name, `n`, `o`, `g` and `c`, so that names of two kinds are never one
+-- text
 abbrev pub kind_letter : BlankKind → ℕ
 kind_letter by_label = 110
 kind_letter by_node = 111

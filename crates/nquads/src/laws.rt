@@ -1,6 +1,7 @@
 //! Laws of the definitions: each is the contract of a function that does nothing.
 
 ghost use Rattle.base_types.specs.Sets.{SameElements};
+ghost use Rattle.nquads.specs.FirstDegree.{first_degree_hash};
 ghost use Rattle.nquads.specs.Lines.{
   HasLabels,
   IsLine,
@@ -11,10 +12,28 @@ ghost use Rattle.nquads.specs.Lines.{
   line,
 };
 ghost use Rattle.nquads.specs.Renaming.{IsOneToOne, Same, image, rename};
-ghost use Rattle.nquads.specs.Spelling.{escape, text_quad, spelling};
-ghost use Rattle.nquads.specs.Terms.{Blank, by_node, IsDataset, IsStatement, IsTerm, Statement, Term, iri, literal, blank, rdf_lang_string, xsd_string};
+ghost use Rattle.nquads.specs.Spelling.{blank_text, escape, text_quad, spelling};
+ghost use Rattle.nquads.specs.Terms.{
+  Blank,
+  BlankKind,
+  by_cell,
+  by_graph,
+  by_label,
+  by_node,
+  IsDataset,
+  IsLabel,
+  IsStatement,
+  IsTerm,
+  Statement,
+  Term,
+  iri,
+  literal,
+  blank,
+  rdf_lang_string,
+  xsd_string,
+};
 ghost use Rattle.std.specs.List.{concat, flat_map};
-ghost use Rattle.std.specs.Prelude.{All, Contains, List, map, [], ◌∷◌, ◌++◌, ◌≡◌, ℕ, codes, Some, None};
+ghost use Rattle.std.specs.Prelude.{All, Contains, List, map, [], ◌∷◌, ◌++◌, ◌≡◌, ℕ, codes, Option, Some, None};
 
 /// A text is the spelling of one term at most, so texts are compared in place of terms.
 pub fn spelling_has_one_reading()
@@ -23,14 +42,16 @@ pub fn spelling_has_one_reading()
 
 /// Four texts are the spellings of one statement at most.
 pub fn spelled_statement_has_one_reading()
-    ensures { (s t : Statement) → IsStatement s → IsStatement t → text_quad s ≡ text_quad t → s ≡ t }
+    ensures { (s t : Statement) → IsStatement s → IsStatement t
+        → text_quad s ≡ text_quad t → s ≡ t }
 {}
 
 /// Two statements with one line are one but for the names of their blank nodes, and these have the
 /// same labels at the same places.
 pub fn line_has_one_reading()
-    ensures { (f g : Blank → List ℕ) (s t : Statement) → IsStatement s → IsStatement t → HasLabels f s
-        → HasLabels g t → line f s ≡ line g t → with_labels f s ≡ with_labels g t }
+    ensures { (f g : Blank → List ℕ) (s t : Statement) → IsStatement s → IsStatement t
+        → HasLabels f s → HasLabels g t → line f s ≡ line g t
+        → with_labels f s ≡ with_labels g t }
 {}
 
 /// In a dataset whose labels differ, no two statements have one line.
@@ -42,22 +63,25 @@ pub fn line_names_its_statement()
 
 /// A line ends with LF and holds no other.
 pub fn line_is_one_line()
-    ensures { (f : Blank → List ℕ) (s : Statement) → IsStatement s → HasLabels f s → IsLine (line f s) }
+    ensures { (f : Blank → List ℕ) (s : Statement) → IsStatement s → HasLabels f s
+        → IsLine (line f s) }
 {}
 
 /// A text of whole lines is split into lines in one way only.
 pub fn joined_lines_split_once()
-    ensures { (ls ms : List (List ℕ)) → All IsLine ls → All IsLine ms → concat ls ≡ concat ms → ls ≡ ms }
+    ensures { (ls ms : List (List ℕ)) → All IsLine ls → All IsLine ms
+        → concat ls ≡ concat ms → ls ≡ ms }
 {}
 
-/// A canonical text determines its lines, and with them the labelled statements; and these determine
-/// it.
+/// A canonical text determines its lines, and with them the labelled statements; and these
+/// determine it.
 pub fn text_has_one_reading()
-    ensures lines { (f g : Blank → List ℕ) (q r : List Statement) → All IsStatement q → All IsStatement r
-        → All (HasLabels f) q → All (HasLabels g) r → canonical_text f q ≡ canonical_text g r
-        → canonical_lines f q ≡ canonical_lines g r }
-    ensures statements { (f g : Blank → List ℕ) (q r : List Statement) → All IsStatement q → All IsStatement r
-        → All (HasLabels f) q → All (HasLabels g) r → canonical_text f q ≡ canonical_text g r
+    ensures lines { (f g : Blank → List ℕ) (q r : List Statement)
+        → All IsStatement q → All IsStatement r → All (HasLabels f) q → All (HasLabels g) r
+        → canonical_text f q ≡ canonical_text g r → canonical_lines f q ≡ canonical_lines g r }
+    ensures statements { (f g : Blank → List ℕ) (q r : List Statement)
+        → All IsStatement q → All IsStatement r → All (HasLabels f) q → All (HasLabels g) r
+        → canonical_text f q ≡ canonical_text g r
         → SameElements (map (with_labels f) q) (map (with_labels g) r) }
     ensures text { (f g : Blank → List ℕ) (q r : List Statement)
         → SameElements (map (with_labels f) q) (map (with_labels g) r)
@@ -67,8 +91,9 @@ pub fn text_has_one_reading()
 /// Datasets with one canonical text are the same up to the names of blank nodes, where no two blank
 /// nodes of a dataset have one label.
 pub fn text_names_its_dataset()
-    ensures { (f g : Blank → List ℕ) (q r : List Statement) → All IsStatement q → All IsStatement r
-        → All (HasLabels f) q → All (HasLabels g) r → LabelsDiffer f q → LabelsDiffer g r
+    ensures { (f g : Blank → List ℕ) (q r : List Statement)
+        → All IsStatement q → All IsStatement r → All (HasLabels f) q → All (HasLabels g) r
+        → LabelsDiffer f q → LabelsDiffer g r
         → canonical_text f q ≡ canonical_text g r → Same q r }
 {}
 
@@ -82,10 +107,12 @@ pub fn renaming_carries_labels()
 
 /// A renaming keeps statements well formed, and a dataset without repeats.
 pub fn renaming_keeps_datasets()
-    ensures statement { (h : Blank → Blank) (s : Statement) → IsStatement s → IsStatement (rename h s) }
+    ensures statement { (h : Blank → Blank) (s : Statement)
+        → IsStatement s → IsStatement (rename h s) }
     ensures dataset { (h : Blank → Blank) (q : List Statement) → IsOneToOne h q → IsDataset q
         → IsDataset (map (rename h) q) }
-    ensures same { (q r : List Statement) → Same q r → All IsStatement q → All IsStatement r }
+    ensures same { (q r : List Statement) → Same q r
+        → All IsStatement q → All IsStatement r }
 {}
 
 /// To be the same up to the names of blank nodes is an equivalence, and datasets with the same
@@ -105,13 +132,43 @@ pub fn same_is_a_map_one_to_one()
     ensures to_map { (q r : List Statement) (s : Same q r) → IsOneToOne (image s.pairs) q }
 {}
 
-/// Worked rows: the escapes, the first and the last byte of each range of them, and three whole lines.
+/// Worked rows: the escapes, with the first and the last byte of each range of them, and literals.
 /// RDF Canonicalization, the canonical form of N-Quads.
-pub fn worked_lines()
+pub fn worked_spellings()
     ensures escapes { flat_map escape (8 ∷ 9 ∷ 10 ∷ 12 ∷ 13 ∷ 34 ∷ 92 ∷ [])
         ≡ codes "\\b\\t\\n\\f\\r\\\"\\\\" }
     ensures controls { flat_map escape (0 ∷ 7 ∷ 11 ∷ 14 ∷ 31 ∷ 32 ∷ 126 ∷ 127 ∷ 128 ∷ [])
         ≡ codes "\\u0000\\u0007\\u000B\\u000E\\u001F ~\\u007F" ++ 128 ∷ [] }
+    ensures language { spelling (literal (codes "chat") rdf_lang_string (Some (codes "fr-BE")))
+        ≡ codes "\"chat\"@fr-BE" }
+    ensures datatype { spelling (literal (codes "42") (codes "http://example.org/n") None)
+        ≡ codes "\"42\"^^<http://example.org/n>" }
+    ensures string { spelling (literal (codes "42") xsd_string None) ≡ codes "\"42\"" }
+{}
+
+/// Worked rows: the texts of blank nodes, one of each kind.
+pub fn worked_blank_texts()
+    ensures label { blank_text (record { kind = by_label; name = codes "b0" }) ≡ codes "_:nb0" }
+    ensures node { blank_text (record { kind = by_node; name = codes "/0" }) ≡ codes "_:o/0" }
+    ensures graph { blank_text (record { kind = by_graph; name = codes "/0" }) ≡ codes "_:g/0" }
+    ensures cell { blank_text (record { kind = by_cell; name = codes "/0" }) ≡ codes "_:c/0" }
+{}
+
+/// Worked rows: what is a label, and what is none. RDF 1.1 N-Quads, 4, BLANK_NODE_LABEL.
+pub fn worked_labels()
+    ensures dot_within { IsLabel (codes "a.b") }
+    ensures dot_first { IsLabel (codes ".a") → ⊥ }
+    ensures dot_last { IsLabel (codes "a.") → ⊥ }
+    ensures hyphen_last { IsLabel (codes "a-") }
+    ensures hyphen_first { IsLabel (codes "-a") → ⊥ }
+    ensures digit_first { IsLabel (codes "0") }
+    ensures space_within { IsLabel (codes "a b") → ⊥ }
+    ensures nothing { IsLabel [] → ⊥ }
+{}
+
+/// Worked rows: whole lines, and a text of lines that stood out of order and twice. RDF
+/// Canonicalization, the canonical form of N-Quads.
+pub fn worked_lines()
     ensures named_graph { line (λ b. codes "c14n0") (record {
       subject = blank (record { kind = by_node; name = [] });
       predicate = codes "http://example.org/p";
@@ -126,11 +183,76 @@ pub fn worked_lines()
       graph = None;
     })
         ≡ codes "<http://example.org/s> <http://example.org/p> \"chat\" .\n" }
-    ensures datatype { line (λ b. []) (record {
-      subject = iri (codes "http://example.org/s");
-      predicate = codes "http://example.org/p";
-      object = literal (codes "1") (codes "http://www.w3.org/2001/XMLSchema#integer") None;
-      graph = None;
-    })
-        ≡ codes "<http://example.org/s> <http://example.org/p> \"1\"^^<http://www.w3.org/2001/XMLSchema#integer> .\n" }
+    ensures text { let first : Statement = record {
+      subject = blank (record { kind = by_node; name = [] });
+      predicate = codes "p";
+      object = iri (codes "b");
+      graph = Some (iri (codes "g"));
+    } in
+        let second : Statement = record {
+          subject = iri (codes "a");
+          predicate = codes "p";
+          object = literal (codes "1") xsd_string None;
+          graph = None;
+        } in
+        canonical_text (λ b. codes "c14n0") (first ∷ second ∷ first ∷ [])
+        ≡ codes "<a> <p> \"1\" .\n_:c14n0 <p> <b> <g> .\n" }
+{}
+
+/// Worked rows: what a first-degree hash is the digest of. The statements mention the blank node n
+/// as subject and object at once; as subject of two with equal lines, as object, and as subject and
+/// graph; and as graph. RDF Dataset Canonicalization, 4.6.3.
+pub fn worked_first_degree()
+    ensures twice { let n : Blank = record { kind = by_label; name = codes "n" } in
+        let s : Statement = record {
+          subject = blank n;
+          predicate = codes "p";
+          object = blank n;
+          graph = None;
+        } in
+        first_degree_hash (λ text. text) (s ∷ []) n ≡ codes "_:a <p> _:a .\n" }
+    ensures several { let n : Blank = record { kind = by_label; name = codes "n" } in
+        let m : Blank = record { kind = by_label; name = codes "m" } in
+        let k : Blank = record { kind = by_node; name = codes "n" } in
+        let s : Statement = record {
+          subject = blank m;
+          predicate = codes "p";
+          object = blank n;
+          graph = None;
+        } in
+        let t : Statement = record {
+          subject = blank n;
+          predicate = codes "p";
+          object = blank m;
+          graph = None;
+        } in
+        let u : Statement = record {
+          subject = blank n;
+          predicate = codes "p";
+          object = blank k;
+          graph = None;
+        } in
+        let v : Statement = record {
+          subject = blank n;
+          predicate = codes "o";
+          object = blank m;
+          graph = Some (blank n);
+        } in
+        first_degree_hash (λ text. text) (s ∷ t ∷ u ∷ v ∷ []) n
+        ≡ codes "_:a <o> _:z _:a .\n_:a <p> _:z .\n_:a <p> _:z .\n_:z <p> _:a .\n" }
+    ensures graph { let n : Blank = record { kind = by_label; name = codes "n" } in
+        let m : Blank = record { kind = by_label; name = codes "m" } in
+        let s : Statement = record {
+          subject = blank m;
+          predicate = codes "p";
+          object = blank m;
+          graph = None;
+        } in
+        let t : Statement = record {
+          subject = iri (codes "a");
+          predicate = codes "p";
+          object = blank m;
+          graph = Some (blank n);
+        } in
+        first_degree_hash (λ text. text) (s ∷ t ∷ []) n ≡ codes "<a> <p> _:z _:a .\n" }
 {}

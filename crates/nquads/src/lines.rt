@@ -136,7 +136,8 @@ fn is_named(labels: &TextLabels, part: &Text) -> bool
 
 /// The line of each statement, in their order.
 fn lines_of(alloc: Global, quads: &[TextQuad], labels: &TextLabels) -> Result<Vec<Text>, Memory>
-    ensures { IfOk result (λ lines. lines.items ≡ map (text_line (label_text labels.now)) quads.now) }
+    ensures { IfOk result (λ lines.
+        lines.items ≡ map (text_line (label_text labels.now)) quads.now) }
 {
     let mut lines = Vec::new(alloc);
     for quad in quads {

@@ -46,7 +46,8 @@ pub fn literal(
     datatype: &str,
     language: Option<&str>,
 ) -> Result<Text, Memory>
-    ensures { IfOk result (λ t. t ≡ literal_text text.now datatype.now (option_copied language.entry)) }
+    ensures { IfOk result (λ t.
+        t ≡ literal_text text.now datatype.now (option_copied language.entry)) }
 {
     let mut out = text_with_room(alloc, text.len().saturating_add(2))?;
     out.push_str("\"")?;
@@ -58,7 +59,8 @@ pub fn literal(
 
 /// What follows the closing quote.
 fn push_end(out: &mut Text, datatype: &str, language: Option<&str>) -> Result<(), Memory>
-    ensures { OnOk result (out.new ≡ out.old ++ literal_end datatype.now (option_copied language.entry)) }
+    ensures { OnOk result
+        (out.new ≡ out.old ++ literal_end datatype.now (option_copied language.entry)) }
 {
     if let Some(tag) = language {
         out.push_str("@")?;

@@ -69,10 +69,12 @@ names_kept : (sorted : List MentionLine) (xs : List (List ℕ)) → map (λ (h :
 names_kept sorted [] = refl
 names_kept sorted (x ∷ xs) = ap (λ ys. x ∷ ys) (names_kept sorted xs)
 
+-- the blank nodes of the hashes rise
 pub names_rise : (sorted : List MentionLine) (hashes : List BlankHash) → hashes ≡ hashes_in sorted → IsStrictlySortedBy text_cmp (map (λ (h : BlankHash). h.blank) hashes)
 names_rise sorted hashes is =
     subst (IsStrictlySortedBy text_cmp) (sym (ap (map (λ (h : BlankHash). h.blank)) is ∙ names_kept sorted (sorted_set (map blank_of sorted)))) (rising-rises (map blank_of sorted))
 
+-- what the grouped lines give are the first-degree hashes
 pub are_first : (q : List Statement) (lines sorted : List MentionLine) (hashes : List BlankHash) → lines ≡ flat_map mention_lines (map text_quad q) → IsPermutation lines sorted → InBlankOrder sorted → hashes ≡ hashes_in sorted → AreFirstHashes sha256_digits q hashes
 are_first q lines sorted hashes made moved up is = record {
   once = AllDiffer-strictly_sorted nat_list_cmp_total (map (λ (h : BlankHash). h.blank) hashes) (names_rise sorted hashes is);

@@ -46,14 +46,17 @@ part_is n (iri text) = refl
 part_is n (literal text datatype language) = refl
 part_is n (blank b) = same_text n b ∙ sym (or_false (same_blank n b))
 
+-- whether the graph has this text
 abbrev pub graph_has : List ℕ → Option (List ℕ) → Bool
 graph_has x None = false
 graph_has x (Some g) = bytes_eq g x
 
+-- a graph is the blank node where its text is that node's
 pub graph_is : (n : Blank) (g : Option Term) → graph_has (blank_text n) (option_map spelling g) ≡ list_any (same_blank n) (blanks_of_graph g)
 graph_is n None = refl
 graph_is n (Some t) = part_is n t
 
+-- the texts tell whether a statement mentions the blank node
 pub mentions_is : (n : Blank) (s : Statement) → ((bytes_eq (spelling s.subject) (blank_text n) || bytes_eq (spelling s.object) (blank_text n)) || graph_has (blank_text n) (option_map spelling s.graph)) ≡ mentions n s
 mentions_is n s =
     let whole = list_any-append (same_blank n) (blanks_of_term s.subject) (blanks_of_term s.object ++ blanks_of_graph s.graph) in
@@ -71,6 +74,7 @@ mentions_is n s =
 mark_is : (n b : Blank) → mark_text (blank_text n) (blank_text b) ≡ mark n b
 mark_is n b = ap (λ test. cond test (codes "a") (codes "z")) (same_text n b)
 
+-- the line of a statement's texts under the marks is its line under `mark`
 pub mention_line-spelled : (n : Blank) (s : Statement) → text_line (mark_text (blank_text n)) (text_quad s) ≡ line (mark n) s
 mention_line-spelled n s = text_line-spelled (mark_text (blank_text n)) s ∙ (λ i. line (λ b. mark_is n b i) s)
 
@@ -146,6 +150,7 @@ module _ (x : List ℕ) (quad : TextQuad) (is : is_blank x ≡ true) where
       ap (λ ls. one_if (bytes_eq quad.subject x || bytes_eq quad.object x) ++ ls) (filter_if (bytes_eq quad.subject g || bytes_eq quad.object g) g)
       ∙ pick (bytes_eq quad.subject x || bytes_eq quad.object x) (bytes_eq g x) (bytes_eq quad.subject g || bytes_eq quad.object g) (or_same quad.subject quad.object g) (or_apart quad.subject quad.object g)
 
+  -- the lines of a quad for one blank node: one where it is mentioned, however often
   pub mention_lines-filter : filter for_x (mention_lines quad) ≡ one_if ((bytes_eq quad.subject x || bytes_eq quad.object x) || graph_has x quad.graph)
   mention_lines-filter =
       let whole = filter-append for_x (line_at quad quad.subject) (object_lines quad ++ graph_lines quad quad.graph) in
@@ -159,6 +164,7 @@ module _ (x : List ℕ) (quad : TextQuad) (is : is_blank x ≡ true) where
       ∙ ap (λ ls. ls ++ filter for_x (graph_lines quad quad.graph)) two
       ∙ graph_part quad.graph
 
+-- the same of a statement
 pub lines_for-mentions : (n : Blank) (s : Statement) → lines_for (blank_text n) (mention_lines (text_quad s)) ≡ cond (mentions n s) (line (mark n) s ∷ []) []
 lines_for-mentions n s =
     ap (map (λ (m : MentionLine). m.line)) (mention_lines-filter (blank_text n) (text_quad s) refl ∙ ap (λ b. cond b (mention_line (text_quad s) (blank_text n) ∷ []) []) (mentions_is n s))
@@ -170,6 +176,7 @@ lines_for-mentions n s =
 
 -- ---- the lines of a dataset for one blank node
 
+-- the lines for one blank node are those of its mention set
 pub lines_for-dataset : (n : Blank) (q : List Statement) → lines_for (blank_text n) (flat_map mention_lines (map text_quad q)) ≡ map (line (mark n)) (mention_set q n)
 lines_for-dataset n [] = refl
 lines_for-dataset n (s ∷ q) =
@@ -207,6 +214,7 @@ graph_blank s (Some t) m c =
     let at = from_line_at (text_quad s) (spelling t) m (from_cond (bytes_eq (spelling s.subject) (spelling t) || bytes_eq (spelling s.object) (spelling t)) (line_at (text_quad s) (spelling t)) m c) in
     part_blank t m.blank at.0 at.1
 
+-- each line is for a blank node of the statement
 pub mention_blank : (s : Statement) (m : MentionLine) → Contains (mention_lines (text_quad s)) m → (n : Blank) × Contains (blanks_of s) n × (m.blank ≡ blank_text n)
 mention_blank s m c =
     elim (Contains-append_cases (line_at (text_quad s) (spelling s.subject)) (object_lines (text_quad s) ++ graph_lines (text_quad s) (option_map spelling s.graph)) m c) [
@@ -222,6 +230,7 @@ mention_blank s m c =
       ]
     ]
 
+-- a blank node among the blank nodes of a statement is mentioned
 pub mentions-contains : (n : Blank) (bs : List Blank) → Contains bs n → list_any (same_blank n) bs ≡ true
 mentions-contains n [] c = absurd (Contains-nil n c)
 mentions-contains n (b ∷ bs) c =

@@ -16,8 +16,8 @@ use Rattle.std.proofs.lemmas.List.Sums.{sum_by-cons}
 use Rattle.std.proofs.lemmas.List.Sorted.{sorted_far, ranks_by, sum_by-IsPermutation}
 use Rattle.base_types.specs.Order.{is_upto, in_order, sorted_set}
 use Rattle.base_types.specs.Sets.{SameElements}
-use Rattle.base_types.proofs.Lists.{Contains-here, Contains-there, Contains-cons_cases, Contains-from_map, AllByRecursion-contains, irreflexive}
-use Rattle.base_types.proofs.Orders.{text_cmp, is_upto-cmp, is_upto-refl, by_cmp, in_order-only, InOrder, IsSorted-InOrder}
+use Rattle.base_types.proofs.Lists.{get_or-next, Contains-here, Contains-there, Contains-cons_cases, Contains-from_map, AllByRecursion-contains, irreflexive}
+use Rattle.base_types.proofs.Orders.{text_cmp, is_upto-cmp, is_upto-refl, by_cmp, upto_if, less_upto, less_if, once, bytes_eq-false, in_order-only, InOrder, IsSorted-InOrder}
 use Rattle.base_types.proofs.Rising.{rising-rises, rising-same, rising-only}
 use Rattle.digest_mac.specs.Digests.{sha256_digits}
 use Rattle.nquads.specs.FirstDegree.{blank_hash}
@@ -26,23 +26,19 @@ use Rattle.nquads.proofs.ReadingElements.{All-from_contains}
 use Rattle.rdfc_first.specs.declared.mentions.MentionLine.{MentionLine}
 use Rattle.rdfc_first.specs.contracts.mentions.MentionLineOrd.TheImpl.Laws.{total-law}
 use Rattle.rdfc_first.specs.Internal.Grouping.{lines_for, hash_in, hashes_in, IsUptoLine, InBlankOrder, run_of}
-use Rattle.rdfc_first.proofs.Filters.{filter-all, filter-none, once, IsPermutation-from_counts}
+use Rattle.rdfc_first.proofs.Filters.{filter-all, filter-none, IsPermutation-from_counts}
 
 abbrev blank_of : MentionLine → List ℕ
 blank_of m = m.blank
 
 -- ---- what a sort leaves is in order
 
+-- the order of the lines: by blank node, then by text
 abbrev pub line_cmp : MentionLine → MentionLine → Ordering
 line_cmp x y = ordering_then (text_cmp x.blank y.blank) (text_cmp x.line y.line)
 
 line_total : IsTotalOrder line_cmp
 line_total = total-law
-
-upto_if : (t u : List ℕ) → is_lt (text_cmp u t) ≡ false → is_upto t u ≡ true
-upto_if t u e =
-    let turned = nat_list_cmp_total.antisymm t u in let above = is_upto-cmp t u in
-    by_cmp (is_upto t u ≡ true) u t (λ f. let a = ap is_lt f in absurd (cc)) (λ f. let a = ap ordering_reverse f in let b = ap is_le (turned ∙ a) in cc) (λ f. let a = ap ordering_reverse f in let b = ap is_le (turned ∙ a) in cc)
 
 line_upto : (m n : MentionLine) → is_lt (line_cmp n m) ≡ false → IsUptoLine m n
 line_upto m n e =
@@ -60,17 +56,16 @@ each_upto : (m : MentionLine) (ns : List MentionLine) → AllByRecursion (λ n. 
 each_upto m [] all = tt
 each_upto m (n ∷ ns) all = (line_upto m n all.0, each_upto m ns all.1)
 
-next : (m : MentionLine) (ms : List MentionLine) (k : ℕ) (d : MentionLine) → get_or (m ∷ ms) (suc k + 1) d ≡ get_or ms (k + 1) d
-next m ms k d = let e : suc k + 1 ≡ suc (k + 1) = omega arith in ap (λ n. get_or (m ∷ ms) n d) e
-
+-- a sort leaves lines by blank node
 pub InBlankOrder-from_sorted : (ms : List MentionLine) → IsSorted line_cmp ms → InBlankOrder ms
 InBlankOrder-from_sorted [] up = tt
 InBlankOrder-from_sorted (m ∷ ms) up =
     let far : All (λ n. is_lt (line_cmp n m) ≡ false) ms = λ k d in'. sorted_far (λ x y. is_lt (line_cmp x y)) (ranks_by line_total (λ x. x)) (m ∷ ms) up 0 (suc k) d (omega arith) (omega arith) in
-    (each_upto m ms (recursion_from_All (λ n. is_lt (line_cmp n m) ≡ false) ms far), InBlankOrder-from_sorted ms (λ k d low high. subst (λ v. is_lt (line_cmp v (get_or ms k d)) ≡ false) (next m ms k d) (up (suc k) d (omega arith) (omega arith))))
+    (each_upto m ms (recursion_from_All (λ n. is_lt (line_cmp n m) ≡ false) ms far), InBlankOrder-from_sorted ms (λ k d low high. subst (λ v. is_lt (line_cmp v (get_or ms k d)) ≡ false) (get_or-next m ms k d) (up (suc k) d (omega arith) (omega arith))))
 
 -- ---- the first run
 
+-- the later lines of lines by blank node are so too
 pub InBlankOrder-drop : (n : ℕ) (ms : List MentionLine) → InBlankOrder ms → InBlankOrder (drop n ms)
 InBlankOrder-drop zero ms up = up
 InBlankOrder-drop (suc n) [] up = tt
@@ -84,24 +79,11 @@ run-all b (m ∷ ms) = go (bytes_eq m.blank b) refl (run-all b ms)
     go true e rest = (e, rest)
     go false e rest = tt
 
-less_upto : (a b c : List ℕ) → text_cmp a b ≡ Less → is_upto b c ≡ true → text_cmp a c ≡ Less
-less_upto a b c less up =
-    by_cmp (text_cmp a c ≡ Less) b c
-    (λ e. nat_list_cmp_total.trans a b c less e)
-    (λ e. subst (λ z. text_cmp a z ≡ Less) (exact_bytes b c e) less)
-    (λ e. let f : is_upto b c ≡ false = is_upto-cmp b c ∙ ap is_le e in absurd (false≢true (sym f ∙ up)))
-
 all_less : (b : List ℕ) (m : MentionLine) (ms : List MentionLine) → text_cmp b m.blank ≡ Less → AllByRecursion (IsUptoLine m) ms → AllByRecursion (λ (n : MentionLine). text_cmp b n.blank ≡ Less) ms
 all_less b m [] less up = tt
 all_less b m (n ∷ ns) less up = (less_upto b m.blank n.blank less up.0.blanks, all_less b m ns less up.1)
 
-less_if : (b c : List ℕ) → is_upto b c ≡ true → bytes_eq c b ≡ false → text_cmp b c ≡ Less
-less_if b c up other =
-    by_cmp (text_cmp b c ≡ Less) b c
-    (λ e. e)
-    (λ e. absurd (false≢true (sym other ∙ (bytes_eq-Decides c b).1 (sym (exact_bytes b c e)))))
-    (λ e. let f : is_upto b c ≡ false = is_upto-cmp b c ∙ ap is_le e in absurd (false≢true (sym f ∙ up)))
-
+-- after the lines of a blank node come those of greater ones
 pub run-after : (b : List ℕ) (ms : List MentionLine) → AllByRecursion (λ (m : MentionLine). is_upto b m.blank ≡ true) ms → InBlankOrder ms → AllByRecursion (λ (m : MentionLine). text_cmp b m.blank ≡ Less) (drop (run_of b ms) ms)
 run-after b [] above up = tt
 run-after b (m ∷ ms) above up = go (bytes_eq m.blank b) refl (run-after b ms above.1 up.1)
@@ -116,20 +98,13 @@ blanks_upto m (n ∷ ns) up = (up.0.blanks, blanks_upto m ns up.1)
 
 -- ---- a run and what is left
 
-bytes_false : (x y : List ℕ) → (x ≡ y → ⊥) → bytes_eq x y ≡ false
-bytes_false x y n = go (bytes_eq x y) refl
-  where
-    go : (t : Bool) → bytes_eq x y ≡ t → t ≡ false
-    go true e = absurd (n ((bytes_eq-Decides x y).0 e))
-    go false e = refl
-
 none_same : (b : List ℕ) (ms : List MentionLine) → AllByRecursion (λ (m : MentionLine). text_cmp b m.blank ≡ Less) ms → AllByRecursion (λ (m : MentionLine). bytes_eq m.blank b ≡ false) ms
 none_same b [] all = tt
-none_same b (m ∷ ms) all = (bytes_false m.blank b (λ e. irreflexive nat_list_cmp_total b m.blank all.0 (sym e)), none_same b ms all.1)
+none_same b (m ∷ ms) all = (bytes_eq-false m.blank b (λ e. irreflexive nat_list_cmp_total b m.blank all.0 (sym e)), none_same b ms all.1)
 
 others_false : (b c : List ℕ) (ms : List MentionLine) → (b ≡ c → ⊥) → AllByRecursion (λ (m : MentionLine). bytes_eq m.blank b ≡ true) ms → AllByRecursion (λ (m : MentionLine). bytes_eq m.blank c ≡ false) ms
 others_false b c [] n all = tt
-others_false b c (m ∷ ms) n all = (bytes_false m.blank c (λ e. n (sym ((bytes_eq-Decides m.blank b).0 all.0) ∙ e)), others_false b c ms n all.1)
+others_false b c (m ∷ ms) n all = (bytes_eq-false m.blank c (λ e. n (sym ((bytes_eq-Decides m.blank b).0 all.0) ∙ e)), others_false b c ms n all.1)
 
 strictly_sorted-cons : (x : List ℕ) (xs : List (List ℕ)) → AllByRecursion (λ y. text_cmp x y ≡ Less) xs → IsStrictlySortedBy text_cmp xs → IsStrictlySortedBy text_cmp (x ∷ xs)
 unfolding IsStrictlySortedBy
@@ -156,6 +131,7 @@ module _ (b : List ℕ) (run later : List MentionLine) (in_run : AllByRecursion 
       let found = Contains-from_map blank_of later c m in
       subst (λ z. text_cmp b z ≡ Less) found.2 (AllByRecursion-contains (λ (m : MentionLine). text_cmp b m.blank ≡ Less) later found.0 after found.1)
 
+  -- the blank nodes: the first one, and those of the later lines
   pub rising-run : Contains (map blank_of run) b → sorted_set (map blank_of (run ++ later)) ≡ b ∷ sorted_set (map blank_of later)
   rising-run here =
       let both : map blank_of (run ++ later) ≡ map blank_of run ++ map blank_of later = map-append blank_of run later in
@@ -190,6 +166,7 @@ module _ (b : List ℕ) (run later : List MentionLine) (in_run : AllByRecursion 
       let rest = hashes_agree cs (λ d m. n d (Contains-there c cs d m)) in
       λ i. first i ∷ rest i
 
+  -- the hashes: that of the first run, and those of the later lines
   pub hashes_in-run : Contains (map blank_of run) b → hashes_in (run ++ later) ≡ blank_hash b (sha256_digits (concat (map (λ (m : MentionLine). m.line) run))) ∷ hashes_in later
   hashes_in-run here =
       let first : hash_in (run ++ later) b ≡ blank_hash b (sha256_digits (concat (map (λ (m : MentionLine). m.line) run))) = ap (λ ls. blank_hash b (sha256_digits (concat ls))) lines_for-run in
@@ -214,6 +191,7 @@ turn_of m ms up =
       some = subst (λ n. 0 < n) (sym is) (omega arith);
     }
 
+-- the same for the values of the loop
 pub turn : (first : MentionLine) (rest run later : List MentionLine) (n : ℕ) (hash : BlankHash) → InBlankOrder rest → slice_get rest 0 ≡ Some first → n ≡ run_of first.blank rest → run ≡ take n rest → later ≡ drop n rest → hash ≡ blank_hash first.blank (sha256_digits (concat (map (λ (m : MentionLine). m.line) run))) → Turn rest hash n later
 turn first [] run later n hash up at en er el eh = absurd (cc)
 turn first (m ∷ ms) run later n hash up at en er el eh =
@@ -258,6 +236,7 @@ InOrder-lines_for b (m ∷ ms) up = go (bytes_eq m.blank b) refl (InOrder-lines_
     go true e rest = (all_lines b m ms ((bytes_eq-Decides m.blank b).0 e) up.0, rest)
     go false e rest = rest
 
+-- the lines of a blank node, in order after the sort
 pub lines_for-sorted : (b : List ℕ) (ms ns : List MentionLine) → IsPermutation ms ns → InBlankOrder ns → lines_for b ns ≡ in_order (lines_for b ms)
 lines_for-sorted b ms ns moved up =
     in_order-only (lines_for b ms) (lines_for b ns)

@@ -47,7 +47,8 @@ fn push_object(alloc: Global, lines: &mut Vec<MentionLine>, quad: &TextQuad) -> 
 }
 
 fn push_graph(alloc: Global, lines: &mut Vec<MentionLine>, quad: &TextQuad) -> Result<(), Memory>
-    ensures { OnOk result (lines.new.items ≡ lines.old.items ++ graph_lines quad.now quad.now.graph) }
+    ensures { OnOk result
+        (lines.new.items ≡ lines.old.items ++ graph_lines quad.now quad.now.graph) }
 {
     let Some(graph) = &quad.graph else {
         return Ok(());

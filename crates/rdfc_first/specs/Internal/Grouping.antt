@@ -9,7 +9,8 @@ use Rattle.rdfc_first.specs.declared.mentions.MentionLine.{MentionLine}
 
 -- the lines of one blank node
 abbrev pub lines_for : List ℕ → List MentionLine → List (List ℕ)
-lines_for blank lines = map (λ (m : MentionLine). m.line) (filter (λ (m : MentionLine). bytes_eq m.blank blank) lines)
+lines_for blank lines =
+    map (λ (m : MentionLine). m.line) (filter (λ (m : MentionLine). bytes_eq m.blank blank) lines)
 
 -- a blank node with the digest of its lines
 abbrev pub hash_in : List MentionLine → List ℕ → BlankHash
