@@ -1,3 +1,5 @@
+//! SHA-256 (FIPS 180-4), as bytes and as hexadecimal digits.
+
 ghost use Rattle.std.specs.Prelude.{◌≡◌};
 ghost use Rattle.sha2.specs.Sha256.{sha256 as sha256_of};
 ghost use Rattle.digest_mac.specs.Digests.{sha256_digits};

@@ -1,7 +1,7 @@
 //! Digests of bytes: SHA-256 (FIPS 180-4), by the crates `sha2` and `hex`.
 //!
-//! Nothing here takes memory. `sha256` of a contract is `sha2`'s definition of the standard's function
-//! on lists of bytes, so a caller can say which digest it holds.
+//! Nothing here takes memory. `sha256` of a contract is `sha2`'s definition of the standard's
+//! function on lists of bytes, so a caller can say which digest it holds.
 #![tactic(auto)]
 
 mod digest;

@@ -1,10 +1,10 @@
 -- What covers: a record that holds, no record where nothing is accepted, and a history whose premises hold.
-use Rattle.std.proofs.Common.{◌≡◌, ◌≢◌, ◌<◌, ℕ, false, true, List, [], ◌∷◌, map, length, All, Contains, inl, inr, refl, sym, ap, ◌∙◌, subst, arith}
+use Rattle.std.proofs.Common.{◌≡◌, ◌≢◌, ◌<◌, ℕ, false, true, List, [], ◌∷◌, map, All, Contains, inl, inr, refl, sym, ap, ◌∙◌, subst, arith, Some}
 use Rattle.std.specs.List.{concat}
 use Rattle.std.proofs.lemmas.Bool.{false≢true}
 use Rattle.std.proofs.lemmas.Option.{slice_get_within}
 use Rattle.std.proofs.lemmas.List.Elements.{All-cons, All-nil, All-contains, Contains-append_left, Contains-append_right}
-use Rattle.base_types.proofs.Lists.{Contains-here, Contains-nil, Contains-cons_cases, Contains-from_map, Contains-map}
+use Rattle.base_types.proofs.Lists.{Contains-here, Contains-nil, Contains-cons_cases, Contains-from_map, Contains-map, same_some}
 use Rattle.key_device.specs.declared.device.SignedEntry.{SignedEntry}
 use Rattle.key_device.specs.declared.keys.KeyName.{KeyName}
 use Rattle.key_device.specs.declared.keys.Signature.{Signature}
@@ -122,16 +122,17 @@ module _ (device : DeviceMeaning) (history : List BaseRecord) (v : VerifyData) (
 -- ---- an exact device
 
 -- what an entry of a log signs
-abbrev entry_signing : SignedEntry → Signing
+abbrev pub entry_signing : SignedEntry → Signing
 entry_signing e = signing e.key e.bytes
 
 -- an exact device forges nothing
-pub exact_forges_nothing : (device : DeviceMeaning) (history : List BaseRecord) (issuer : KeyName) → ((key : KeyName) → IsInUse history issuer key → device.owns key ≡ true) → (m : MeansItsLog device) → ((e : SignedEntry) → Contains m.entries e → IsInUse history issuer e.key → Contains (history_signings history) (signing e.key e.bytes)) → NoForgery device history issuer
-exact_forges_nothing device history issuer owns m made = record {
+pub exact_forges_nothing : (device : DeviceMeaning) (history : List BaseRecord) (issuer : KeyName) (entries : List SignedEntry) → device.log ≡ Some entries → MeansItsLog device → ((key : KeyName) → IsInUse history issuer key → device.owns key ≡ true) → ((e : SignedEntry) → Contains entries e → IsInUse history issuer e.key → Contains (history_signings history) (signing e.key e.bytes)) → NoForgery device history issuer
+exact_forges_nothing device history issuer entries told m owns made = record {
   owns = owns;
   signings = map entry_signing m.entries;
   it_signed = λ key bytes s own a. Contains-map entry_signing m.entries (log_entry key bytes s) ((m.accepted key bytes s).0 a);
   for_a_record = λ x c uses.
       let w = Contains-from_map entry_signing m.entries x c in
-      subst (Contains (history_signings history)) w.2 (made w.0 w.1 (subst (IsInUse history issuer) (sym (ap (λ (y : Signing). y.key) w.2)) uses));
+      let same : m.entries ≡ entries = same_some device.log m.entries entries m.told told in
+      subst (Contains (history_signings history)) w.2 (made w.0 (subst (λ (xs : List SignedEntry). Contains xs w.0) same w.1) (subst (IsInUse history issuer) (sym (ap (λ (y : Signing). y.key) w.2)) uses));
 }

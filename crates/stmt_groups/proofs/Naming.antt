@@ -1,10 +1,8 @@
 -- A good proof that a history covers names one record of it.
-use Rattle.std.proofs.Common.{◌≡◌, ◌≢◌, ℕ, true, List, [], ◌∷◌, map, All, Contains, inl, inr, sym, ◌∙◌, subst}
+use Rattle.std.proofs.Common.{◌≡◌, ℕ, true, List, [], ◌∷◌, map, All, Contains, inl, inr, sym, ◌∙◌, subst}
 use Rattle.std.specs.List.{AllZip}
 use Rattle.std.proofs.lemmas.List.Elements.{All-contains}
 use Rattle.base_types.proofs.Lists.{Contains-here, Contains-there, Contains-map, Contains-nil, Contains-cons_cases}
-use Rattle.key_device.specs.declared.keys.KeyName.{KeyName}
-use Rattle.key_device.specs.declared.keys.Signature.{Signature}
 use Rattle.key_device.specs.Devices.{Acceptance}
 use Rattle.nquads.specs.Lines.{IsLine}
 use Rattle.nquads.proofs.ReadingElements.{All-from_contains}
@@ -12,12 +10,12 @@ use Rattle.nquads.proofs.ReadingDatasets.{canonical_lines_are_lines}
 use Rattle.nquads.proofs.ReadingLines.{one_split}
 use Rattle.stmt_groups.specs.declared.types.BaseRecord.{BaseRecord}
 use Rattle.stmt_groups.specs.Lines.{AreLines}
-use Rattle.stmt_groups.specs.Datasets.{LabelledDataset, IsLabelled, dataset_lines}
+use Rattle.stmt_groups.specs.Datasets.{IsLabelled, dataset_lines}
 use Rattle.stmt_groups.specs.Records.{Signing, signing, history_signings, sign_data, HasLines}
-use Rattle.stmt_groups.specs.Proofs.{VerifyData, IsGood, checked_signings, mandatory_lines, non_mandatory_lines, verify_bytes}
+use Rattle.stmt_groups.specs.Proofs.{VerifyData, IsGood, mandatory_lines, non_mandatory_lines, verify_bytes}
 use Rattle.stmt_groups.specs.Soundness.{KeysServeOnce, IsCovered, IsOnlyRecord, NamesOne}
 use Rattle.stmt_groups.proofs.LineLemmas.{lines_at-All}
-use Rattle.stmt_groups.proofs.Histories.{Origin, origin, same_key, same_bytes, sign_data_parts, one_place, place_of, one_record}
+use Rattle.stmt_groups.proofs.Histories.{origin, same_key, same_bytes, sign_data_parts, one_place, place_of, one_record}
 
 -- the record whose issuer signed the sign data of what is verified
 pub record BaseOrigin (history : List BaseRecord) (v : VerifyData) : Type 0 where

@@ -1,17 +1,18 @@
 -- What holds of the record of an issue reveals a part of what was issued.
-use Rattle.std.proofs.Common.{◌≡◌, ℕ, Bool, true, false, List, [], ◌∷◌, ◌++◌, map, flat_map, All, Contains, inl, inr, refl, sym, ap, ◌∙◌, subst, if◌then◌else◌}
+use Rattle.std.proofs.Common.{◌≡◌, ℕ, Bool, true, false, List, [], ◌∷◌, map, flat_map, All, Contains, inl, inr, refl, sym, ap, ◌∙◌, subst, if◌then◌else◌}
 use Rattle.std.specs.List.{concat}
 use Rattle.std.specs.Str.{bytes_eq}
 use Rattle.std.proofs.lemmas.List.Elements.{All-contains, Contains-append_left, Contains-append_cases}
-use Rattle.base_types.proofs.Lists.{Contains-here, Contains-there, Contains-map, Contains-from_map, Contains-nil, Contains-cons_cases}
+use Rattle.base_types.proofs.Lists.{Contains-here, Contains-there, Contains-map, Contains-from_map, Contains-nil, Contains-cons_cases, SameElements-refl}
 use Rattle.base_types.proofs.Orders.{bytes_eq-true, bytes_eq-differ}
 use Rattle.nquads.specs.Terms.{Blank, by_label, IsStatement, Statement}
-use Rattle.nquads.specs.Renaming.{IsOneToOne, Same, StandsIn, blanks_of, rename}
+use Rattle.nquads.specs.Renaming.{Same, StandsIn, blanks_of, rename}
 use Rattle.nquads.specs.Lines.{HasLabels, canonical_lines, line, with_labels}
 use Rattle.nquads.proofs.ReadingBlanks.{blanks_of-rename, from_blanks_in, rename-rename}
 use Rattle.nquads.proofs.ReadingDatasets.{StandsIn-from_statement, canonical_lines_are_lines}
 use Rattle.nquads.proofs.ReadingElements.{All-from_contains, from_rising, to_rising}
 use Rattle.nquads.proofs.ReadingLines.{line_one_reading, statement_from_renamed}
+use Rattle.nquads.proofs.ReadingRenamings.{Same-from_one_to_one}
 use Rattle.nquads.proofs.ReadingSame.{text_determines_dataset}
 use Rattle.nquads.proofs.ReadingTerms.{named}
 use Rattle.stmt_groups.specs.declared.types.BaseRecord.{BaseRecord}
@@ -168,3 +169,23 @@ module _ (issued issued_options : LabelledDataset) (mandatory : List Statement) 
           let same : rename sends s ≡ w.0 = sent_to s w.0 at.0 rest.0 (sym w.2) in
           (subst (Contains issued.statements) (sym same) rest.0, λ c. rest.1 (subst (Contains mandatory) same c));
     }
+
+-- ---- what a revealed part is
+
+-- it lies between the mandatory and the issued statements, up to blank nodes
+pub lies_between : (document : LabelledDataset) (indexes : List ℕ) (issued mandatory : List Statement) → Reveals document indexes issued mandatory → All (Contains issued) mandatory → (part : List Statement) × Same document.statements part × All (Contains issued) part × All (Contains part) mandatory
+lies_between document indexes issued mandatory r within =
+    let part : List Statement = map (rename r.renaming) document.statements in (
+      part,
+      Same-from_one_to_one r.renaming document.statements part r.one_to_one (SameElements-refl part),
+      All-from_contains (Contains issued) part (λ t c.
+          let w = Contains-from_map (rename r.renaming) document.statements t c in
+          let l = line document.label w.0 in
+          elim (Contains-append_cases (lines_at indexes (dataset_lines document)) (other_lines indexes (dataset_lines document)) l ((lines_are_split indexes (dataset_lines document) l).1 (to_lines document.label document.statements w.0 w.1))) [
+            | inl d ↦ All-contains (Contains issued) mandatory t within ((r.exactly_mandatory t).1 (w.0, (w.1, d), w.2))
+            | inr d ↦ subst (Contains issued) w.2 (r.others_issued w.0 (w.1, d)).0
+          ]),
+      All-from_contains (Contains part) mandatory (λ t c.
+          let w = (r.exactly_mandatory t).0 c in
+          subst (Contains part) w.2 (Contains-map (rename r.renaming) document.statements w.0 w.1.0)),
+    )

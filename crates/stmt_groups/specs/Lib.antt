@@ -4,3 +4,4 @@ pub mod Records
 pub mod Proofs
 pub mod Soundness
 pub mod Premises
+pub mod Example

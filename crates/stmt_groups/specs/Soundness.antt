@@ -7,11 +7,11 @@ use Rattle.key_device.specs.declared.keys.KeyName.{KeyName}
 use Rattle.key_device.specs.declared.keys.Signature.{Signature}
 use Rattle.key_device.specs.Devices.{Acceptance}
 use Rattle.nquads.specs.Terms.{Blank, Statement}
-use Rattle.nquads.specs.Renaming.{IsOneToOne, rename}
+use Rattle.nquads.specs.Renaming.{IsOneToOne, Same, rename}
 use Rattle.stmt_groups.specs.declared.types.BaseRecord.{BaseRecord}
 use Rattle.stmt_groups.specs.Lines.{lines_at, other_lines}
 use Rattle.stmt_groups.specs.Datasets.{LabelledDataset, IsLabelled, IsAt, IsElsewhere, dataset_lines}
-use Rattle.stmt_groups.specs.Records.{Signing, history_signings, HasLines}
+use Rattle.stmt_groups.specs.Records.{Signing, history_signings, HasLines, IsRecord}
 use Rattle.stmt_groups.specs.Proofs.{VerifyData, checked_signings, mandatory_lines}
 
 -- equal digests of the two texts mean equal texts
@@ -72,8 +72,8 @@ pub record NamesOne (history : List BaseRecord) (v : VerifyData) : Type 0 where
   pub holds : Holds one v.document v.options v.proof.indexes
 
 -- The document reveals a part of an issued one. One renaming of its blank nodes sends the
--- statements at the indexes to exactly the mandatory ones, and each other statement to an issued one
--- that is not mandatory.
+-- statements at the indexes to exactly the mandatory ones, and each other statement to an issued
+-- one that is not mandatory.
 pub record Reveals (document : LabelledDataset) (indexes : List ℕ)
     (issued mandatory : List Statement) : Type 0 where
   pub renaming : Blank → Blank
@@ -82,3 +82,11 @@ pub record Reveals (document : LabelledDataset) (indexes : List ℕ)
       (s : Statement) × IsAt indexes document s × (rename renaming s ≡ t))
   pub others_issued : (s : Statement) → IsElsewhere indexes document s
       → Contains issued (rename renaming s) × (Contains mandatory (rename renaming s) → ⊥)
+
+-- What is verified reveals the issue of the record: of whatever document and options it is the
+-- record, these are the options up to blank nodes, and the document reveals a part of that one.
+abbrev pub RevealsIssueOf : BaseRecord → VerifyData → Type 0
+RevealsIssueOf r v = (issued options : LabelledDataset) (mandatory : List Statement)
+    → IsRecord issued options mandatory r
+    → Same v.options.statements options.statements
+    × Reveals v.document v.proof.indexes issued.statements mandatory

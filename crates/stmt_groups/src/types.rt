@@ -1,3 +1,5 @@
+//! Records of base proofs, and why a document, a dataset or a pointer is refused.
+
 use base_types::{Sequence, Text};
 use key_device::KeyName;
 
@@ -21,8 +23,8 @@ pub enum ListName {
     Chosen,
 }
 
-/// A pointer that was refused: its list, its place there from 0, and the byte where its text is no JSON
-/// Pointer; without that byte it names no place.
+/// A pointer that was refused: its list, its place there from 0, and the byte where its text is no
+/// JSON Pointer; without that byte it names no place.
 #[derive(Clone, Copy, Debug, PartialEq, Eq)]
 pub struct PointerRefusal {
     pub list: ListName,
@@ -45,13 +47,14 @@ pub enum Cause {
     Expired { expires: Text, moment: Text },
     /// The issuer's signature is not accepted.
     BaseSignature,
-    /// The signature of this statement is not accepted, and those before it are; counted from 0 among
-    /// the statements that are not mandatory.
+    /// The signature of this statement is not accepted, and those before it are; counted from 0
+    /// among the statements that are not mandatory.
     StatementSignature(u64),
 }
 
-/// What was signed with one base proof: the issuer's key, the statement key, and the canonical lines of
-/// the proof options, of the mandatory statements and of the others, each in code-point order.
+/// What was signed with one base proof: the issuer's key, the statement key, and the canonical
+/// lines of the proof options, of the mandatory statements and of the others, each in code-point
+/// order.
 #[derive(Debug, Drop)]
 pub struct BaseRecord {
     pub issuer: KeyName,

@@ -1,0 +1,89 @@
+-- A worked example: a device signs for two records, and a document is derived from the first.
+use Rattle.std.specs.Prelude.{ℕ, List, [], ◌∷◌, ◌++◌, map, None, codes, replicate}
+use Rattle.key_device.specs.declared.keys.KeyName.{KeyName}
+use Rattle.key_device.specs.declared.keys.Signature.{Signature}
+use Rattle.key_device.specs.Devices.{log_entry}
+use Rattle.key_device.specs.Ledgers.{Ledger}
+use Rattle.nquads.specs.Terms.{iri, Statement}
+use Rattle.stmt_groups.specs.declared.types.BaseRecord.{BaseRecord}
+use Rattle.stmt_groups.specs.Datasets.{LabelledDataset}
+use Rattle.stmt_groups.specs.Proofs.{VerifyData}
+use Rattle.stmt_groups.specs.Records.{sign_data}
+
+-- a key and a signature of one byte, repeated
+abbrev pub key : ℕ → KeyName
+key n = record { bytes = replicate 35 n }
+
+abbrev pub signature : ℕ → Signature
+signature n = record { bytes = replicate 64 n }
+
+-- the statement that urn:s has this value of urn:p, and its line
+abbrev pub statement : List ℕ → Statement
+statement value =
+    record {
+      subject = iri (codes "urn:s");
+      predicate = codes "urn:p";
+      object = iri value;
+      graph = None;
+    }
+
+abbrev pub statement_line : List ℕ → List ℕ
+statement_line value = codes "<urn:s> <urn:p> <" ++ value ++ codes "> .\n"
+
+-- a dataset without blank nodes
+abbrev pub dataset : List (List ℕ) → LabelledDataset
+dataset values = record { statements = map statement values; label = λ b. [] }
+
+-- Two records, whose mandatory statement is that of urn:a.
+abbrev pub first_record : BaseRecord
+first_record = record {
+  issuer = key 1;
+  key = key 2;
+  options = statement_line (codes "urn:o") ∷ [];
+  mandatory = statement_line (codes "urn:a") ∷ [];
+  others = statement_line (codes "urn:b") ∷ statement_line (codes "urn:c") ∷ [];
+}
+
+abbrev pub second_record : BaseRecord
+second_record = record {
+  issuer = key 1;
+  key = key 3;
+  options = statement_line (codes "urn:q") ∷ [];
+  mandatory = statement_line (codes "urn:a") ∷ [];
+  others = statement_line (codes "urn:d") ∷ [];
+}
+
+abbrev pub history : List BaseRecord
+history = first_record ∷ second_record ∷ []
+
+-- the bytes that the issuer key signs for a record
+abbrev pub base_of : BaseRecord → List ℕ
+base_of r = sign_data r.options r.key r.mandatory
+
+-- the device that made these signatures, and no others
+abbrev pub ledger : Ledger
+ledger = record {
+  keys = key 1 ∷ key 2 ∷ key 3 ∷ [];
+  log =
+      log_entry (key 2) (statement_line (codes "urn:b")) (signature 1)
+      ∷ log_entry (key 2) (statement_line (codes "urn:c")) (signature 2)
+      ∷ log_entry (key 1) (base_of first_record) (signature 3)
+      ∷ log_entry (key 3) (statement_line (codes "urn:d")) (signature 4)
+      ∷ log_entry (key 1) (base_of second_record) (signature 5)
+      ∷ [];
+  secrets = 2;
+}
+
+-- the document that shows the first record's mandatory statement and that of urn:c
+abbrev pub derived : VerifyData
+derived = record {
+  issuer = key 1;
+  document = dataset (codes "urn:a" ∷ codes "urn:c" ∷ []);
+  options = dataset (codes "urn:o" ∷ []);
+  proof = record {
+    key = key 2;
+    signature = signature 3;
+    signatures = signature 2 ∷ [];
+    indexes = 0 ∷ [];
+  };
+}
