@@ -43,11 +43,11 @@ branch : (c : ℕ) (t : Bool) (x y r : List ℕ) → (t ≡ true → read_byte (
 branch c true x y r p q = p refl
 branch c false x y r p q = q refl
 
-named : (c k m : ℕ) (r : List ℕ) → read_mark m r ≡ (k, r) → (c == k) ≡ true → read_byte ((92 ∷ m ∷ []) ++ r) ≡ (c, r)
-named c k m r p e = rw (eqb-true c k e) p
+letter_escape : (c k m : ℕ) (r : List ℕ) → read_mark m r ≡ (k, r) → (c == k) ≡ true → read_byte ((92 ∷ m ∷ []) ++ r) ≡ (c, r)
+letter_escape c k m r p e = rw (eqb-true c k e) p
 
-coded : (c : ℕ) (r : List ℕ) → c < 128 → read_byte ((92 ∷ 117 ∷ 48 ∷ 48 ∷ hex_digit (c / 16) ∷ hex_digit (c % 16) ∷ []) ++ r) ≡ (c, r)
-coded c r l =
+number_escape : (c : ℕ) (r : List ℕ) → c < 128 → read_byte ((92 ∷ 117 ∷ 48 ∷ 48 ∷ hex_digit (c / 16) ∷ hex_digit (c % 16) ∷ []) ++ r) ≡ (c, r)
+number_escape c r l =
     let high : c / 16 < 16 = omega arith in
     let low : c % 16 < 16 = omega arith in
     let h : digit_value (hex_digit (c / 16)) ≡ c / 16 = digit_value-hex_digit (c / 16) high in
@@ -64,14 +64,14 @@ small c e = elim (or_cases (nat_lt c 32) (c == 127) e) [ inl p ↦ omega (arith,
 -- the reader gives back the byte that was escaped
 pub read_byte-escape : (c : ℕ) (r : List ℕ) → read_byte (escape c ++ r) ≡ (c, r)
 read_byte-escape c r =
-    branch c (c == 8) _ _ r (named c 8 98 r refl) (λ n1.
-    branch c (c == 9) _ _ r (named c 9 116 r refl) (λ n2.
-    branch c (c == 10) _ _ r (named c 10 110 r refl) (λ n3.
-    branch c (c == 12) _ _ r (named c 12 102 r refl) (λ n4.
-    branch c (c == 13) _ _ r (named c 13 114 r refl) (λ n5.
-    branch c (c == 34) _ _ r (named c 34 34 r refl) (λ n6.
-    branch c (c == 92) _ _ r (named c 92 92 r refl) (λ n7.
-    branch c (nat_lt c 32 || (c == 127)) _ _ r (λ e. coded c r (small c e)) (λ n8. itself c r n7))))))))
+    branch c (c == 8) _ _ r (letter_escape c 8 98 r refl) (λ n1.
+    branch c (c == 9) _ _ r (letter_escape c 9 116 r refl) (λ n2.
+    branch c (c == 10) _ _ r (letter_escape c 10 110 r refl) (λ n3.
+    branch c (c == 12) _ _ r (letter_escape c 12 102 r refl) (λ n4.
+    branch c (c == 13) _ _ r (letter_escape c 13 114 r refl) (λ n5.
+    branch c (c == 34) _ _ r (letter_escape c 34 34 r refl) (λ n6.
+    branch c (c == 92) _ _ r (letter_escape c 92 92 r refl) (λ n7.
+    branch c (nat_lt c 32 || (c == 127)) _ _ r (λ e. number_escape c r (small c e)) (λ n8. itself c r n7))))))))
 
 not_quote : (c : ℕ) (r u : List ℕ) → escape c ++ r ≡ 34 ∷ u → ⊥
 not_quote c r u e =

@@ -8,7 +8,7 @@ use Rattle.nquads.specs.Spelling.{escape, iri_text, literal_end}
 use Rattle.nquads.specs.Lines.{term_text, graph_text, line_text, line, with_labels, HasLabels, IsLine}
 use Rattle.nquads.proofs.ReadingTexts.{apart, Absent, Absent-append, Absent-contains, Absent-from, cut_once}
 use Rattle.nquads.proofs.ReadingEscapes.{quoted_absent}
-use Rattle.nquads.proofs.ReadingTerms.{named, iri_then, term_then, IsTerm-from_resource, same_statement, iri_absent, label_absent, language_absent}
+use Rattle.nquads.proofs.ReadingTerms.{label_blank, iri_then, term_then, IsTerm-from_resource, same_statement, iri_absent, label_absent, language_absent}
 
 -- ---- one line
 
@@ -17,7 +17,7 @@ nothing_apart g (iri x) r u e = apart 46 60 _ _ refl e
 nothing_apart g (literal s x k) r u e = apart 46 34 _ _ refl e
 nothing_apart g (blank b) r u e = apart 46 95 _ _ refl e
 
-graph_then : (f g : Blank → List ℕ) (a b : Option Term) (r u : List ℕ) → IfSome a IsResource → IfSome b IsResource → ((n : Blank) → Contains (blanks_of_graph a) n → IsLabel (f n)) → ((n : Blank) → Contains (blanks_of_graph b) n → IsLabel (g n)) → graph_text f a ++ 46 ∷ r ≡ graph_text g b ++ 46 ∷ u → option_map (rename_term (named f)) a ≡ option_map (rename_term (named g)) b
+graph_then : (f g : Blank → List ℕ) (a b : Option Term) (r u : List ℕ) → IfSome a IsResource → IfSome b IsResource → ((n : Blank) → Contains (blanks_of_graph a) n → IsLabel (f n)) → ((n : Blank) → Contains (blanks_of_graph b) n → IsLabel (g n)) → graph_text f a ++ 46 ∷ r ≡ graph_text g b ++ 46 ∷ u → option_map (rename_term (label_blank f)) a ≡ option_map (rename_term (label_blank g)) b
 graph_then f g None None r u i j p q e = refl
 graph_then f g None (Some b) r u i j p q e = absurd (nothing_apart g b r (32 ∷ 46 ∷ u) (e ∙ append_assoc (term_text g b) (32 ∷ []) (46 ∷ u)))
 graph_then f g (Some a) None r u i j p q e = absurd (nothing_apart f a u (32 ∷ 46 ∷ r) (sym e ∙ append_assoc (term_text f a) (32 ∷ []) (46 ∷ r)))
@@ -43,17 +43,17 @@ pub line_one_reading : (f g : Blank → List ℕ) (s t : Statement) → IsStatem
 unfolding after_object after_predicate after_subject
 line_one_reading f g s t i j p q e =
     let whole : term_text f s.subject ++ 32 ∷ after_subject f s ≡ term_text g t.subject ++ 32 ∷ after_subject g t = sym (in_parts f s) ∙ e ∙ in_parts g t in
-    let subjects : (rename_term (named f) s.subject ≡ rename_term (named g) t.subject) × (after_subject f s ≡ after_subject g t) =
+    let subjects : (rename_term (label_blank f) s.subject ≡ rename_term (label_blank g) t.subject) × (after_subject f s ≡ after_subject g t) =
     term_then f g s.subject t.subject (after_subject f s) (after_subject g t) (IsTerm-from_resource s.subject i.subject) (IsTerm-from_resource t.subject j.subject)
     (λ b m. p b (Contains-append_left (blanks_of_term s.subject) (blanks_of_term s.object ++ blanks_of_graph s.graph) b m))
     (λ b m. q b (Contains-append_left (blanks_of_term t.subject) (blanks_of_term t.object ++ blanks_of_graph t.graph) b m)) whole in
     let predicates : (s.predicate ≡ t.predicate) × (after_predicate f s ≡ after_predicate g t) =
     iri_then s.predicate t.predicate (after_predicate f s) (after_predicate g t) i.predicate j.predicate subjects.1 in
-    let objects : (rename_term (named f) s.object ≡ rename_term (named g) t.object) × (after_object f s ≡ after_object g t) =
+    let objects : (rename_term (label_blank f) s.object ≡ rename_term (label_blank g) t.object) × (after_object f s ≡ after_object g t) =
     term_then f g s.object t.object (after_object f s) (after_object g t) i.object j.object
     (λ b m. p b (Contains-append_right (blanks_of_term s.subject) (blanks_of_term s.object ++ blanks_of_graph s.graph) b (Contains-append_left (blanks_of_term s.object) (blanks_of_graph s.graph) b m)))
     (λ b m. q b (Contains-append_right (blanks_of_term t.subject) (blanks_of_term t.object ++ blanks_of_graph t.graph) b (Contains-append_left (blanks_of_term t.object) (blanks_of_graph t.graph) b m))) predicates.1 in
-    let graphs : option_map (rename_term (named f)) s.graph ≡ option_map (rename_term (named g)) t.graph =
+    let graphs : option_map (rename_term (label_blank f)) s.graph ≡ option_map (rename_term (label_blank g)) t.graph =
     graph_then f g s.graph t.graph (10 ∷ []) (10 ∷ []) i.graph j.graph
     (λ b m. p b (Contains-append_right (blanks_of_term s.subject) (blanks_of_term s.object ++ blanks_of_graph s.graph) b (Contains-append_right (blanks_of_term s.object) (blanks_of_graph s.graph) b m)))
     (λ b m. q b (Contains-append_right (blanks_of_term t.subject) (blanks_of_term t.object ++ blanks_of_graph t.graph) b (Contains-append_right (blanks_of_term t.object) (blanks_of_graph t.graph) b m))) objects.1 in
@@ -101,7 +101,7 @@ statement_from_renamed h s t p e =
 
 -- labels that differ tell two statements apart by their lines
 pub line_names_statement : (f : Blank → List ℕ) (s t : Statement) → IsStatement s → IsStatement t → HasLabels f s → HasLabels f t → ((a b : Blank) → Contains (blanks_of s) a → Contains (blanks_of t) b → f a ≡ f b → a ≡ b) → line f s ≡ line f t → s ≡ t
-line_names_statement f s t i j p q o e = statement_from_renamed (named f) s t (λ a b m n k. o a b m n (ap (λ (z : Blank). z.name) k)) (line_one_reading f f s t i j p q e)
+line_names_statement f s t i j p q o e = statement_from_renamed (label_blank f) s t (λ a b m n k. o a b m n (ap (λ (z : Blank). z.name) k)) (line_one_reading f f s t i j p q e)
 
 -- ---- a line holds no other line feed
 

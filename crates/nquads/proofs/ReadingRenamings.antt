@@ -26,13 +26,13 @@ unfolding along
 along_to h [] = refl
 along_to h (b ∷ bs) = ap (λ (z : List Blank). h b ∷ z) (along_to h bs)
 
-along_applied : (h : Blank → Blank) (bs : List Blank) (b : Blank) → Contains bs b → image (along h bs) b ≡ h b
+image_along : (h : Blank → Blank) (bs : List Blank) (b : Blank) → Contains bs b → image (along h bs) b ≡ h b
 unfolding along
-along_applied h [] b m = absurd (Contains-nil b m)
-along_applied h (c ∷ cs) b m =
+image_along h [] b m = absurd (Contains-nil b m)
+image_along h (c ∷ cs) b m =
     chosen (same_blank c b) (h c) (image (along h cs) b) (h b)
     (λ e. ap h (same_blank-true c b e))
-    (λ e. along_applied h cs b (elim (Contains-cons_cases c cs b m) [ inl k ↦ absurd (same_blank-false c b e k) | inr n ↦ n ]))
+    (λ e. image_along h cs b (elim (Contains-cons_cases c cs b m) [ inl k ↦ absurd (same_blank-false c b e k) | inr n ↦ n ]))
 
 -- no two blank nodes of the dataset are sent to one
 abbrev pub OneToOneOn : (Blank → Blank) → List Statement → Type 0
@@ -49,7 +49,7 @@ pub Same-from_map : (h : Blank → Blank) (q r : List Statement) → OneToOneOn 
 Same-from_map h q r o e =
     let bs = distinct (flat_map blanks_of q) in
     let named : (b : Blank) → Stands q b → Contains bs b = λ b s. distinct_keeps (flat_map blanks_of q) b (to_blanks_in q s.statement b s.within s.blank_node) in
-    let agrees : (b : Blank) → Stands q b → image (along h bs) b ≡ h b = λ b s. along_applied h bs b (named b s) in
+    let agrees : (b : Blank) → Stands q b → image (along h bs) b ≡ h b = λ b s. image_along h bs b (named b s) in
     record {
       pairs = along h bs;
       renaming = record {
@@ -66,9 +66,9 @@ Same-from_map h q r o e =
 
 -- ---- what a renaming does, and how it is undone
 
-applied_at : (r : List Pair) (p : Pair) → AllDiffer (map (λ (x : Pair). x.from) r) → Contains r p → image r p.from ≡ p.to
-applied_at [] p a m = absurd (Contains-nil p m)
-applied_at (x ∷ xs) p a m =
+image_at : (r : List Pair) (p : Pair) → AllDiffer (map (λ (x : Pair). x.from) r) → Contains r p → image r p.from ≡ p.to
+image_at [] p a m = absurd (Contains-nil p m)
+image_at (x ∷ xs) p a m =
     chosen (same_blank x.from p.from) x.to (image xs p.from) p.to
     (λ e. elim (Contains-cons_cases x xs p m) [
       | inl k ↦ ap (λ (z : Pair). z.to) k
@@ -76,39 +76,39 @@ applied_at (x ∷ xs) p a m =
     ])
     (λ e. elim (Contains-cons_cases x xs p m) [
       | inl k ↦ absurd (same_blank-false x.from p.from e (ap (λ (z : Pair). z.from) k))
-      | inr n ↦ applied_at xs p (AllDiffer-tail x.from (map (λ (z : Pair). z.from) xs) a) n
+      | inr n ↦ image_at xs p (AllDiffer-tail x.from (map (λ (z : Pair). z.from) xs) a) n
     ])
 
-swapped : Pair → Pair
-swapped p = record { from = p.to; to = p.from }
+swap : Pair → Pair
+swap p = record { from = p.to; to = p.from }
 
 -- the renaming the other way round
 pub back : List Pair → List Pair
 back [] = []
-back (p ∷ ps) = swapped p ∷ back ps
+back (p ∷ ps) = swap p ∷ back ps
 
 back_from : (r : List Pair) → map (λ (p : Pair). p.from) (back r) ≡ map (λ (p : Pair). p.to) r
-unfolding back swapped
+unfolding back swap
 back_from [] = refl
 back_from (p ∷ ps) = ap (λ (z : List Blank). p.to ∷ z) (back_from ps)
 
-back-contains : (r : List Pair) (p : Pair) → Contains r p → Contains (back r) (swapped p)
+back-contains : (r : List Pair) (p : Pair) → Contains r p → Contains (back r) (swap p)
 unfolding back
 back-contains [] p m = absurd (Contains-nil p m)
 back-contains (x ∷ xs) p m =
     elim (Contains-cons_cases x xs p m) [
-      | inl e ↦ subst (λ (z : Pair). Contains (swapped x ∷ back xs) z) (ap swapped e) (Contains-here (swapped x) (back xs))
-      | inr n ↦ Contains-there (swapped x) (back xs) (swapped p) (back-contains xs p n)
+      | inl e ↦ subst (λ (z : Pair). Contains (swap x ∷ back xs) z) (ap swap e) (Contains-here (swap x) (back xs))
+      | inr n ↦ Contains-there (swap x) (back xs) (swap p) (back-contains xs p n)
     ]
 
 -- the renaming backwards undoes it
-pub applied_back : (r : List Pair) (b : Blank) → IsRenaming r → Contains (map (λ (p : Pair). p.from) r) b → image (back r) (image r b) ≡ b
-unfolding swapped
-applied_back r b i m =
+pub image_back : (r : List Pair) (b : Blank) → IsRenaming r → Contains (map (λ (p : Pair). p.from) r) b → image (back r) (image r b) ≡ b
+unfolding swap
+image_back r b i m =
     let found = Contains-from_map (λ (p : Pair). p.from) r b m in
     let p = found.0 in
-    let to : image r b ≡ p.to = ap (image r) (sym found.2) ∙ applied_at r p i.sources found.1 in
-    let undone : image (back r) p.to ≡ p.from = applied_at (back r) (swapped p) (subst (λ (z : List Blank). AllDiffer z) (sym (back_from r)) i.targets) (back-contains r p found.1) in
+    let to : image r b ≡ p.to = ap (image r) (sym found.2) ∙ image_at r p i.sources found.1 in
+    let undone : image (back r) p.to ≡ p.from = image_at (back r) (swap p) (subst (λ (z : List Blank). AllDiffer z) (sym (back_from r)) i.targets) (back-contains r p found.1) in
     ap (image (back r)) to ∙ undone ∙ found.2
 
 -- a renaming names each blank node of its dataset
@@ -118,7 +118,7 @@ named_at q r e b s =
     (All-contains (λ (t : Statement). All (Contains (map (λ (p : Pair). p.from) e.pairs)) (blanks_of t)) q s.statement e.names s.within) s.blank_node
 
 undone_at : (q r : List Statement) (e : Same q r) (b : Blank) → Stands q b → image (back e.pairs) (image e.pairs b) ≡ b
-undone_at q r e b s = applied_back e.pairs b e.renaming (named_at q r e b s)
+undone_at q r e b s = image_back e.pairs b e.renaming (named_at q r e b s)
 
 -- a renaming is one to one on its dataset
 pub Same-one_to_one : (q r : List Statement) (e : Same q r) → OneToOneOn (image e.pairs) q

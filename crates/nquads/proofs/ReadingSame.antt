@@ -5,7 +5,7 @@ use Rattle.nquads.specs.Terms.{Blank, Term, iri, literal, blank, Statement, IsSt
 use Rattle.nquads.specs.Renaming.{rename_term, rename, image, Same}
 use Rattle.nquads.specs.Lines.{with_labels, HasLabels, canonical_text, LabelsDiffer}
 use Rattle.base_types.proofs.Lists.{Contains-map, Contains-from_map}
-use Rattle.nquads.proofs.ReadingTerms.{named}
+use Rattle.nquads.proofs.ReadingTerms.{label_blank}
 use Rattle.nquads.proofs.ReadingDatasets.{text_determines_statements}
 use Rattle.std.specs.List.{concat}
 use Rattle.nquads.specs.Lines.{term_text, graph_text, line_text, line}
@@ -18,7 +18,7 @@ use Rattle.nquads.proofs.ReadingRenamings.{Same-from_map, Same-from_elements, Sa
 
 Same-labelled : (f : Blank → List ℕ) (q : List Statement) → LabelsDiffer f q → Same q (map (with_labels f) q)
 Same-labelled f q d =
-    Same-from_map (named f) q (map (with_labels f) q)
+    Same-from_map (label_blank f) q (map (with_labels f) q)
     (λ a b s t k. d a b (to_blanks_in q s.statement a s.within s.blank_node) (to_blanks_in q t.statement b t.within t.blank_node) (ap (λ (z : Blank). z.name) k))
     (λ t. ((λ m. m), (λ m. m)))
 
@@ -74,5 +74,5 @@ text_from_Same f q r e = sym (text_carried f (image e.pairs) q r e.elements)
 -- a canonical text depends on the labelled statements alone
 pub text_from_statements : (f g : Blank → List ℕ) (q r : List Statement) → SameElements (map (with_labels f) q) (map (with_labels g) r) → canonical_text f q ≡ canonical_text g r
 text_from_statements f g q r e =
-    text_carried (λ b. b.name) (named f) q (map (with_labels g) r) e
-    ∙ sym (text_carried (λ b. b.name) (named g) r (map (with_labels g) r) (λ t. ((λ m. m), (λ m. m))))
+    text_carried (λ b. b.name) (label_blank f) q (map (with_labels g) r) e
+    ∙ sym (text_carried (λ b. b.name) (label_blank g) r (map (with_labels g) r) (λ t. ((λ m. m), (λ m. m))))

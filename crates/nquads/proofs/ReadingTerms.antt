@@ -93,11 +93,11 @@ literal_then s t x y r u k l i j e =
     (cc, ends.2)
 
 -- the blank node that a label names
-abbrev pub named : (Blank → List ℕ) → Blank → Blank
-named label b = record { kind = by_label; name = label b }
+abbrev pub label_blank : (Blank → List ℕ) → Blank → Blank
+label_blank label b = record { kind = by_label; name = label b }
 
 -- so has a term
-pub term_then : (f g : Blank → List ℕ) (s t : Term) (r u : List ℕ) → IsTerm s → IsTerm t → ((b : Blank) → Contains (blanks_of_term s) b → IsLabel (f b)) → ((b : Blank) → Contains (blanks_of_term t) b → IsLabel (g b)) → term_text f s ++ 32 ∷ r ≡ term_text g t ++ 32 ∷ u → (rename_term (named f) s ≡ rename_term (named g) t) × (r ≡ u)
+pub term_then : (f g : Blank → List ℕ) (s t : Term) (r u : List ℕ) → IsTerm s → IsTerm t → ((b : Blank) → Contains (blanks_of_term s) b → IsLabel (f b)) → ((b : Blank) → Contains (blanks_of_term t) b → IsLabel (g b)) → term_text f s ++ 32 ∷ r ≡ term_text g t ++ 32 ∷ u → (rename_term (label_blank f) s ≡ rename_term (label_blank g) t) × (r ≡ u)
 term_then f g (iri x) (iri y) r u i j p q e =
     let parts : (x ≡ y) × (r ≡ u) = iri_then x y r u i j e in
     (ap iri parts.0, parts.1)

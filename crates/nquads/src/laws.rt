@@ -22,6 +22,7 @@ ghost use Rattle.nquads.specs.Terms.{
   by_node,
   IsDataset,
   IsLabel,
+  IsResource,
   IsStatement,
   IsTerm,
   Statement,
@@ -152,6 +153,17 @@ pub fn worked_blank_texts()
     ensures node { blank_text (record { kind = by_node; name = codes "/0" }) ≡ codes "_:o/0" }
     ensures graph { blank_text (record { kind = by_graph; name = codes "/0" }) ≡ codes "_:g/0" }
     ensures cell { blank_text (record { kind = by_cell; name = codes "/0" }) ≡ codes "_:c/0" }
+{}
+
+/// Worked rows: a literal has the datatype rdf:langString exactly where it has a language, and no
+/// literal is a subject or a graph. RDF 1.1 Concepts, 3.1, 3.3 and 4.
+pub fn worked_terms()
+    ensures language { IsTerm (literal (codes "chat") rdf_lang_string (Some (codes "fr"))) }
+    ensures no_language { IsTerm (literal (codes "chat") rdf_lang_string None) → ⊥ }
+    ensures string { IsTerm (literal (codes "chat") xsd_string None) }
+    ensures string_language { IsTerm (literal (codes "chat") xsd_string (Some (codes "fr"))) → ⊥ }
+    ensures spaced_iri { IsTerm (iri (codes "a b")) → ⊥ }
+    ensures literal_resource { IsResource (literal (codes "chat") xsd_string None) → ⊥ }
 {}
 
 /// Worked rows: what is a label, and what is none. RDF 1.1 N-Quads, 4, BLANK_NODE_LABEL.

@@ -15,7 +15,7 @@ use base_types::{Memory, Sequence, Text};
 use std::alloc::Global;
 
 /// The canonical lines of a dataset: those of its statements in code-point order, each once. RDF
-/// Dataset Canonicalization, 4.4, the serialized canonical form.
+/// Dataset Canonicalization, serialized canonical form.
 ///
 /// # Errors
 ///
@@ -35,7 +35,7 @@ pub fn canonical_lines(
 }
 
 /// The canonical text of a dataset: its canonical lines, one after another. RDF Dataset
-/// Canonicalization, 4.4, the serialized canonical form.
+/// Canonicalization, serialized canonical form.
 ///
 /// # Errors
 ///

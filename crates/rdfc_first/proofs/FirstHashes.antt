@@ -28,9 +28,9 @@ use Rattle.rdfc_first.proofs.MentionLines.{lines_for-dataset, mention_blank, men
 abbrev blank_of : MentionLine → List ℕ
 blank_of m = m.blank
 
--- the statement of a line
-line_of : (q : List Statement) (m : MentionLine) → Contains (flat_map mention_lines (map text_quad q)) m → (n : Blank) × StandsIn q n × (m.blank ≡ blank_text n)
-line_of q m c = let at = from q q (λ s d. d) c in at
+-- each line is for a blank node of the dataset
+line_stands : (q : List Statement) (m : MentionLine) → Contains (flat_map mention_lines (map text_quad q)) m → (n : Blank) × StandsIn q n × (m.blank ≡ blank_text n)
+line_stands q m c = let at = from q q (λ s d. d) c in at
   where
     from : (all q : List Statement) → ((s : Statement) → Contains q s → Contains all s) → Contains (flat_map mention_lines (map text_quad q)) m → (n : Blank) × StandsIn all n × (m.blank ≡ blank_text n)
     from all [] within c = absurd (Contains-nil m c)
@@ -45,7 +45,7 @@ module _ (q : List Statement) (lines sorted : List MentionLine) (made : lines �
   from_blanks x c =
       let m = Contains-from_map blank_of sorted x ((rising-same (map blank_of sorted) x).0 c) in
       let within : Contains lines m.0 = Contains-permutation sorted lines m.0 (IsPermutation-sym lines sorted moved) m.1 in
-      let n = line_of q m.0 (subst (λ ls. Contains ls m.0) made within) in
+      let n = line_stands q m.0 (subst (λ ls. Contains ls m.0) made within) in
       (n.0, n.1, sym m.2 ∙ n.2)
 
   to_blanks : (n : Blank) → StandsIn q n → Contains (sorted_set (map blank_of sorted)) (blank_text n)
