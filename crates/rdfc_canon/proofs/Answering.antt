@@ -14,9 +14,9 @@ use Rattle.nquads.specs.declared.labels.TextLabel.{TextLabel}
 use Rattle.nquads.specs.declared.quads.TextQuad.{TextQuad}
 use Rattle.nquads.proofs.ReadingTerms.{blank_text_one_reading}
 use Rattle.nquads.proofs.ReadingElements.{AllDiffer-map}
-use Rattle.rdfc_ndegree.specs.Evaluations.{IsFaultOf}
+use Rattle.rdfc_ndegree.specs.Internal.Evaluations.{IsFaultOf}
 use Rattle.rdfc_ndegree.specs.Issuers.{canonical_id}
-use Rattle.rdfc_ndegree.specs.Run.{Result, IsRun, MeetsTie, WorkOver, DepthOver}
+use Rattle.rdfc_ndegree.specs.Run.{RunOutcome, IsRun, MeetsTie, WorkOver, DepthOver}
 use Rattle.rdfc_ndegree.specs.Table.{IsClosed, table_nodes}
 use Rattle.rdfc_ndegree.specs.TableOf.{IsTableWith}
 use Rattle.rdfc_ndegree.specs.declared.limits.CanonFault.{CanonFault}
@@ -27,17 +27,17 @@ use Rattle.rdfc_ndegree.proofs.Lawful.{nodes-lawful, blanks-all}
 use Rattle.rdfc_ndegree.proofs.RunAgree.{runs-agree, tie-exactly}
 use Rattle.rdfc_ndegree.proofs.RunCarry.{result_f}
 use Rattle.rdfc_ndegree.proofs.TableCarry.{at, table-lawful, table-IsRun, table-issuer, table-WorkOver, table-DepthOver}
-use Rattle.rdfc_canon.specs.Canon.{nodes, labels_of, canonical_ids, NameAll, AnswersRun}
-use Rattle.rdfc_canon.specs.Form.{IsCanon}
-use Rattle.rdfc_canon.specs.Labelling.{all_labels}
-use Rattle.rdfc_canon.specs.Numbering.{AnswersNumbers}
+use Rattle.rdfc_canon.specs.Canon.{nodes, canonical_labels, canonical_ids, NameAll, AnswersRun}
+use Rattle.rdfc_canon.specs.Internal.Form.{IsCanon}
+use Rattle.rdfc_canon.specs.Internal.Labelling.{all_labels}
+use Rattle.rdfc_canon.specs.Internal.Numbering.{AnswersNumbers}
 use Rattle.rdfc_canon.specs.declared.canon.Canon.{Canon}
 use Rattle.rdfc_ndegree.proofs.Steps.{same_fault}
 use Rattle.rdfc_canon.proofs.Labels.{labels-made, labels-blanks, labels-length, numbered, label_in-is, lines-agree, dataset-named}
 
 -- ---- the labels of a run
 
-module _ (q : List Statement) (r : Result Blank) (d : IsRun (nodes q) r) where
+module _ (q : List Statement) (r : RunOutcome Blank) (d : IsRun (nodes q) r) where
   covers : (b : Blank) → StandsIn q b → Contains r.issuer b
   covers b k = issuer-covers (nodes-lawful sha256_digits q) r b d ((blanks-all q b).0 k)
 
@@ -47,7 +47,7 @@ module _ (q : List Statement) (r : Result Blank) (d : IsRun (nodes q) r) where
   differs : AllDiffer r.issuer
   differs = issuer-differs (nodes-lawful sha256_digits q) r d
 
-  pub run-names : NameAll q (labels_of q r.issuer)
+  pub run-names : NameAll q (canonical_labels q r.issuer)
   run-names =
       let blanks = labels-blanks q r.issuer in
       record {
@@ -60,11 +60,11 @@ module _ (q : List Statement) (r : Result Blank) (d : IsRun (nodes q) r) where
         numbered = numbered q [] r.issuer differs refl ∙ ap canonical_ids (sym (labels-length q r.issuer));
       }
 
-  pub run-named : All (Names (labels_of q r.issuer)) (map text_quad q)
+  pub run-named : All (Names (canonical_labels q r.issuer)) (map text_quad q)
   run-named = dataset-named q r.issuer covers
 
-  pub run-lines : canonical_lines (label_in (labels_of q r.issuer)) q ≡ canonical_lines (canonical_id (nodes q) r.issuer) q
-  run-lines = lines-agree q (label_in (labels_of q r.issuer)) (canonical_id (nodes q) r.issuer) (λ b k. label_in-is q r.issuer b (covers b k))
+  pub run-lines : canonical_lines (label_in (canonical_labels q r.issuer)) q ≡ canonical_lines (canonical_id (nodes q) r.issuer) q
+  run-lines = lines-agree q (label_in (canonical_labels q r.issuer)) (canonical_id (nodes q) r.issuer) (λ b k. label_in-is q r.issuer b (covers b k))
 
 -- ---- from the table
 
@@ -72,7 +72,7 @@ pub all-stand : (q : List Statement) (firsts : List BlankHash) (rows : List Node
 all-stand q firsts rows t = All-weaker (λ b. StandsIn q b ⊎ Contains [] b) (StandsIn q) (λ b e. ⊎_elim (λ k. k) (λ k. absurd (Contains-nil b k)) e) t.nodes t.each
 
 module _ (q : List Statement) (firsts : List BlankHash) (rows : List NodeRow) (t : IsTableWith q firsts [] rows) where
-  pub run-there : (r : Result ℕ) → IsRun (table_nodes rows) r → IsRun (nodes q) (result_f (at t.nodes) r)
+  pub run-there : (r : RunOutcome ℕ) → IsRun (table_nodes rows) r → IsRun (nodes q) (result_f (at t.nodes) r)
   run-there = table-IsRun q t.nodes rows t.table (all-stand q firsts rows t)
 
   pub work-there : (n : ℕ) → WorkOver (table_nodes rows) n → WorkOver (nodes q) n
@@ -81,7 +81,7 @@ module _ (q : List Statement) (firsts : List BlankHash) (rows : List NodeRow) (t
   pub depth-there : (n : ℕ) → DepthOver (table_nodes rows) n → DepthOver (nodes q) n
   depth-there = table-DepthOver q t.nodes rows t.table (all-stand q firsts rows t)
 
-  pub labels-there : IsClosed rows → (r : Result ℕ) → IsRun (table_nodes rows) r → all_labels rows [] r.issuer ≡ labels_of q (map (at t.nodes) r.issuer)
+  pub labels-there : IsClosed rows → (r : RunOutcome ℕ) → IsRun (table_nodes rows) r → all_labels rows [] r.issuer ≡ canonical_labels q (map (at t.nodes) r.issuer)
   labels-there closed r d =
       labels-made q t.nodes rows t.table [] r.issuer (issuer-differs (table-lawful rows closed) r d) tt (table-issuer q t.nodes rows t.table (all-stand q firsts rows t) r d)
 
@@ -96,13 +96,13 @@ pub record Answered (q : List Statement) (firsts : List BlankHash) (rows : List 
   pub lines_are : All (Names labels) quads → lines ≡ canonical_lines (label_in labels) q
 
 module _ {q : List Statement} {firsts : List BlankHash} {rows : List NodeRow} {quads : List TextQuad} {work_limit depth_limit : ℕ} {labels : List TextLabel} {lines : List (List ℕ)} {tie : Bool} {work : ℕ} (a : Answered q firsts rows quads work_limit depth_limit labels lines tie work) where
-  abbrev its_run : Result Blank
+  abbrev its_run : RunOutcome Blank
   its_run = result_f (at a.table.nodes) a.numbers.run
 
   is_run : IsRun (nodes q) its_run
   is_run = run-there q firsts rows a.table a.numbers.run a.numbers.is_run
 
-  labels_are : labels ≡ labels_of q its_run.issuer
+  labels_are : labels ≡ canonical_labels q its_run.issuer
   labels_are = a.labels_are ∙ ap (all_labels rows []) a.numbers.issuer_is ∙ labels-there q firsts rows a.table a.closed a.numbers.run a.numbers.is_run
 
   pub answers-run : AnswersRun q work_limit depth_limit labels lines tie work
@@ -111,7 +111,7 @@ module _ {q : List Statement} {firsts : List BlankHash} {rows : List NodeRow} {q
     is_run = is_run;
     labels_are = labels_are;
     lines_are =
-        a.lines_are (subst (λ ls. All (Names ls) quads) (sym labels_are) (subst (All (Names (labels_of q its_run.issuer))) (sym a.is) (run-named q its_run is_run)))
+        a.lines_are (subst (λ ls. All (Names ls) quads) (sym labels_are) (subst (All (Names (canonical_labels q its_run.issuer))) (sym a.is) (run-named q its_run is_run)))
         ∙ ap (λ ls. canonical_lines (label_in ls) q) labels_are ∙ run-lines q its_run is_run;
     tie_is = a.numbers.tie_is;
     work_is = a.numbers.work_is;
@@ -127,8 +127,8 @@ module _ {q : List Statement} {firsts : List BlankHash} {rows : List NodeRow} {q
       let exactly = tie-exactly is_run in
       ((λ e. exactly.0 (sym a.numbers.tie_is ∙ e)), (λ m. a.numbers.tie_is ∙ exactly.1 m))
 
-  pub answers-every : tie ≡ false → (r : Result Blank) → IsRun (nodes q) r → labels ≡ labels_of q r.issuer
-  answers-every e r d = labels_are ∙ ap (labels_of q) ((runs-agree is_run d).1 (sym a.numbers.tie_is ∙ e))
+  pub answers-every : tie ≡ false → (r : RunOutcome Blank) → IsRun (nodes q) r → labels ≡ canonical_labels q r.issuer
+  answers-every e r d = labels_are ∙ ap (canonical_labels q) ((runs-agree is_run d).1 (sym a.numbers.tie_is ∙ e))
 
 pub is-canon : {q : List Statement} {firsts : List BlankHash} {rows : List NodeRow} {quads : List TextQuad} {limits : Limits} {c : Canon} → Answered q firsts rows quads limits.work limits.depth c.labels c.lines c.tie c.work → IsCanon q limits c
 is-canon a = record { answers = answers-run a; names = answers-names a; tie = answers-tie a; every = answers-every a }

@@ -1,14 +1,14 @@
 -- The public clauses, from what is answered by cases.
 use Rattle.std.proofs.Common.{◌≡◌, ◌↔◌, ℕ, ◌<◌, ◌≤◌, List, true, false, Result, Ok, Err, IfOk, IsErrAnd, refl, sym, subst, arith}
 use Rattle.nquads.specs.Terms.{Blank, Statement}
-use Rattle.rdfc_ndegree.specs.Evaluations.{IsFaultOf}
+use Rattle.rdfc_ndegree.specs.Internal.Evaluations.{IsFaultOf}
 use Rattle.rdfc_ndegree.specs.Run.{IsRun, MeetsTie, WorkOver, DepthOver, WithinLimits}
 use Rattle.rdfc_ndegree.specs.Run as run
 use Rattle.rdfc_ndegree.specs.declared.limits.CanonFault.{CanonFault}
 use Rattle.rdfc_ndegree.specs.declared.limits.CanonFault.TheVariants as fault
 use Rattle.rdfc_ndegree.specs.declared.limits.Limits.{Limits}
-use Rattle.rdfc_canon.specs.Canon.{nodes, labels_of, AnswersRun, NameAll}
-use Rattle.rdfc_canon.specs.Form.{Canonicalised}
+use Rattle.rdfc_canon.specs.Canon.{nodes, canonical_labels, AnswersRun, NameAll}
+use Rattle.rdfc_canon.specs.Internal.Form.{Canonicalised}
 use Rattle.rdfc_canon.specs.declared.canon.Canon.{Canon}
 
 module _ (q : List Statement) (limits : Limits) where
@@ -24,7 +24,7 @@ module _ (q : List Statement) (limits : Limits) where
   clause-tie (Ok c) h = h.tie
   clause-tie (Err e) h = tt
 
-  pub clause-every : (r : Result Canon CanonFault) → Canonicalised q limits r → IfOk r (λ (c : Canon). c.tie ≡ false → (s : run.Result Blank) → IsRun (nodes q) s → c.labels ≡ labels_of q s.issuer)
+  pub clause-every : (r : Result Canon CanonFault) → Canonicalised q limits r → IfOk r (λ (c : Canon). c.tie ≡ false → (s : run.Result Blank) → IsRun (nodes q) s → c.labels ≡ canonical_labels q s.issuer)
   clause-every (Ok c) h = h.every
   clause-every (Err e) h = tt
 

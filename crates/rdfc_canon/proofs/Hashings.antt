@@ -5,12 +5,13 @@ use Rattle.std.specs.List.Sorted.{IsPermutation, IsSortedByKey}
 use Rattle.std.specs.Option.{is_some}
 use Rattle.std.proofs.lemmas.List.Elements.{All-drop}
 use Rattle.base_types.proofs.Orders.{text_cmp}
-use Rattle.rdfc_ndegree.specs.Nodes.{Nodes, AreNodes}
+use Rattle.rdfc_ndegree.specs.Nodes.{Nodes}
+use Rattle.rdfc_ndegree.specs.Internal.Nodes.{AreNodes}
 use Rattle.rdfc_ndegree.specs.Issuers.{has}
 use Rattle.rdfc_ndegree.specs.NDegree.{Outcome}
-use Rattle.rdfc_ndegree.specs.Lack.{AreListed}
-use Rattle.rdfc_ndegree.specs.Answers.{AnswersCall, CallOver, CallDeep}
-use Rattle.rdfc_ndegree.specs.Evaluations.{IsFaultOf}
+use Rattle.rdfc_ndegree.proofs.Lack.{AreListed}
+use Rattle.rdfc_ndegree.specs.Answers.{answer, AnswersCall, CallOver, CallDeep}
+use Rattle.rdfc_ndegree.specs.Internal.Evaluations.{IsFaultOf}
 use Rattle.rdfc_ndegree.specs.Run.{lacking, work_of, depth_of}
 use Rattle.rdfc_ndegree.specs.Table.{table_nodes}
 use Rattle.rdfc_ndegree.specs.declared.limits.CanonFault.{CanonFault}
@@ -28,9 +29,18 @@ use Rattle.rdfc_ndegree.proofs.Steps.{same_fault}
 use Rattle.rdfc_ndegree.proofs.Tables.{table-has}
 use Rattle.rdfc_ndegree.proofs.Walks.{drop-next}
 use Rattle.rdfc_ndegree.proofs.RunCarry.{results_tie-permuted}
-use Rattle.rdfc_canon.specs.Numbering.{Hashes, Hashing, IsPathOf, AnswersHashes, AnswersRound, HashesOver, HashesDeep, name_each, neighbours_tie}
+use Rattle.rdfc_canon.specs.Internal.Numbering.{HashesAlone, IsPathOf, AnswersHashes, AnswersRound, HashesOver, HashesDeep, issue_paths, neighbours_tie}
 use Rattle.rdfc_canon.proofs.Namings.{name_each-take}
 use Rattle.rdfc_canon.proofs.Sorting.{Up-from_sorted, order-from_Up, neighbours-results}
+use Rattle.rdfc_ndegree.proofs.Progress.{spending_of}
+
+-- In the calls of a group's members, the members `rest` are left, with these paths so far.
+pub record Hashing (v : Nodes ℕ) (c members : List ℕ) (paths : List NodePath) (rest : List ℕ) (old spent limit : ℕ) : Type 0 where
+  pub done : List (Outcome ℕ)
+  pub goes_on : (os : List (Outcome ℕ)) → AllZip (HashesAlone v c) (lacking v c rest) os → AllZip (HashesAlone v c) (lacking v c members) (done ++ os)
+  pub paths_are : AllZip IsPathOf paths done
+  pub spent_is : spent ≡ old + work_of done
+  pub within : depth_of done ≤ limit
 
 pub work_of-append : (os ps : List (Outcome ℕ)) → work_of (os ++ ps) ≡ work_of os + work_of ps
 work_of-append [] ps = omega arith
@@ -53,19 +63,19 @@ module _ (v : Nodes ℕ) (c : List ℕ) where
   pub hashing-skip : {members rest : List ℕ} {paths : List NodePath} {m old spent limit : ℕ} → has v c m ≡ true → Hashing v c members paths (m ∷ rest) old spent limit → Hashing v c members paths rest old spent limit
   hashing-skip {members = members} {rest = rest} {m = m} e w = record {
     done = w.done;
-    goes_on = λ os z. w.goes_on os (subst (λ ns. AllZip (Hashes v c) ns os) (sym (lacking-old m rest e)) z);
+    goes_on = λ os z. w.goes_on os (subst (λ ns. AllZip (HashesAlone v c) ns os) (sym (lacking-old m rest e)) z);
     paths_are = w.paths_are;
     spent_is = w.spent_is;
     within = w.within;
   }
 
   -- a call that answered goes to the end
-  goes_further : {members rest : List ℕ} {paths : List NodePath} {m old spent limit : ℕ} → has v c m ≡ false → (w : Hashing v c members paths (m ∷ rest) old spent limit) → (o : Outcome ℕ) → Hashes v c m o
-      → (os : List (Outcome ℕ)) → AllZip (Hashes v c) (lacking v c rest) os → AllZip (Hashes v c) (lacking v c members) (w.done ++ o ∷ os)
-  goes_further {rest = rest} {m = m} e w o h os z = w.goes_on (o ∷ os) (subst (λ ns. AllZip (Hashes v c) ns (o ∷ os)) (sym (lacking-new m rest e)) (h, z))
+  goes_further : {members rest : List ℕ} {paths : List NodePath} {m old spent limit : ℕ} → has v c m ≡ false → (w : Hashing v c members paths (m ∷ rest) old spent limit) → (o : Outcome ℕ) → HashesAlone v c m o
+      → (os : List (Outcome ℕ)) → AllZip (HashesAlone v c) (lacking v c rest) os → AllZip (HashesAlone v c) (lacking v c members) (w.done ++ o ∷ os)
+  goes_further {rest = rest} {m = m} e w o h os z = w.goes_on (o ∷ os) (subst (λ ns. AllZip (HashesAlone v c) ns (o ∷ os)) (sym (lacking-new m rest e)) (h, z))
 
   pub hashing-turn : {members rest : List ℕ} {paths : List NodePath} {m old spent limit : ℕ} (path : NodePath) (next : ℕ) → has v c m ≡ false → Hashing v c members paths (m ∷ rest) old spent limit
-      → AnswersCall v c m (m ∷ []) path.hash path.issuer path.tie spent next 1 limit → Hashing v c members (paths ++ path ∷ []) rest old next limit
+      → AnswersCall v c m (m ∷ []) (answer path.hash path.issuer path.tie) (spending_of spent next 1 limit) → Hashing v c members (paths ++ path ∷ []) rest old next limit
   hashing-turn {members = members} {rest = rest} {paths = paths} {m = m} {old = old} {spent = spent} {limit = limit} path next e w a =
       let work : work_of (w.done ++ a.outcome ∷ []) ≡ work_of w.done + (a.outcome.work + 0) = work_of-append w.done (a.outcome ∷ []) in
       let depth : depth_of (w.done ++ a.outcome ∷ []) ≡ max (depth_of w.done) (max a.outcome.depth 0) = depth_of-append w.done (a.outcome ∷ []) in
@@ -75,7 +85,7 @@ module _ (v : Nodes ℕ) (c : List ℕ) where
       let here : 1 + a.outcome.depth ≤ limit + 1 = a.within in
       record {
         done = w.done ++ a.outcome ∷ [];
-        goes_on = λ os z. subst (AllZip (Hashes v c) (lacking v c members)) (sym (append_assoc w.done (a.outcome ∷ []) os)) (goes_further e w a.outcome a.call os z);
+        goes_on = λ os z. subst (AllZip (HashesAlone v c) (lacking v c members)) (sym (append_assoc w.done (a.outcome ∷ []) os)) (goes_further e w a.outcome a.call os z);
         paths_are = AllZip-append IsPathOf paths (path ∷ []) w.done (a.outcome ∷ []) w.paths_are (record { hash = a.hash_is; issuer = a.issuer_is; tie = a.tie_is }, tt);
         spent_is = omega arith;
         within = omega arith;
@@ -84,7 +94,7 @@ module _ (v : Nodes ℕ) (c : List ℕ) where
   pub hashing-end : {members : List ℕ} {paths : List NodePath} {old spent limit : ℕ} → Hashing v c members paths [] old spent limit → AnswersHashes v c (lacking v c members) paths old spent limit
   hashing-end {members = members} w = record {
     outcomes = w.done;
-    hashed = subst (AllZip (Hashes v c) (lacking v c members)) (append-nil w.done) (w.goes_on [] tt);
+    hashed = subst (AllZip (HashesAlone v c) (lacking v c members)) (append-nil w.done) (w.goes_on [] tt);
     paths_are = w.paths_are;
     spent = w.spent_is;
     within = w.within;
@@ -145,7 +155,7 @@ module _ (rows : List NodeRow) where
 
   pub hash-turn : (c ms : List ℕ) (k m : ℕ) {paths : List NodePath} {before meter : Meter} (path : NodePath) (next : Meter) → k < length ms → m ≡ get_or ms k 0 → has (table_nodes rows) c m ≡ false
       → InHashLoop rows c ms paths (drop k ms) before meter
-      → AnswersCall (table_nodes rows) c m (m ∷ []) path.hash path.issuer path.tie meter.spent next.spent 1 meter.limits.depth
+      → AnswersCall (table_nodes rows) c m (m ∷ []) (answer path.hash path.issuer path.tie) (spending_of meter.spent next.spent 1 meter.limits.depth)
       → next.limits ≡ meter.limits → (meter.spent ≤ meter.limits.work → next.spent ≤ meter.limits.work)
       → InHashLoop rows c ms (paths ++ path ∷ []) (drop (k + 1) ms) before next
   hash-turn c ms k m {paths = paths} {before = before} {meter = meter} path next lt is e w a same kept = record {
@@ -153,7 +163,7 @@ module _ (rows : List NodeRow) where
     hashing =
         hashing-turn (table_nodes rows) c path next.spent e
         (subst (λ ns. Hashing (table_nodes rows) c ms paths ns before.spent meter.spent before.limits.depth) (drop-next ms k m lt is) w.hashing)
-        (subst (λ (l : Limits). AnswersCall (table_nodes rows) c m (m ∷ []) path.hash path.issuer path.tie meter.spent next.spent 1 l.depth) w.counting.limits a);
+        (subst (λ (l : Limits). AnswersCall (table_nodes rows) c m (m ∷ []) (answer path.hash path.issuer path.tie) (spending_of meter.spent next.spent 1 l.depth)) w.counting.limits a);
   }
 
   pub hash-fault : AreNodes (table_nodes rows) → (c ms : List ℕ) (k m : ℕ) {paths : List NodePath} {before meter : Meter} → k < length ms → m ≡ get_or ms k 0 → has (table_nodes rows) c m ≡ false
@@ -172,7 +182,7 @@ module _ (rows : List NodeRow) where
 
   -- the results, put in hash order, and what is made of them
   pub round-is : (c members d : List ℕ) (paths sorted : List NodePath) (tie : Bool) (old new limit : ℕ) → AnswersHashes (table_nodes rows) c (lacking (table_nodes rows) c members) paths old new limit
-      → IsPermutation paths sorted → IsSortedByKey (λ (p : NodePath). p.hash) text_cmp sorted → tie ≡ neighbours_tie sorted → d ≡ name_each c sorted
+      → IsPermutation paths sorted → IsSortedByKey (λ (p : NodePath). p.hash) text_cmp sorted → tie ≡ neighbours_tie sorted → d ≡ issue_paths c sorted
       → AnswersRound (table_nodes rows) c members d tie old new limit
   round-is c members d paths sorted tie old new limit h moved up tie_is issuer_is =
       let along = AllZip-permutation IsPathOf paths sorted moved h.outcomes h.paths_are in

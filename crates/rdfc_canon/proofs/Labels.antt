@@ -32,8 +32,8 @@ use Rattle.rdfc_ndegree.proofs.Lawful.{nodes-lawful}
 use Rattle.rdfc_ndegree.proofs.Renamed.{line-agree, InPlace, in_place}
 use Rattle.rdfc_ndegree.proofs.TableCarry.{at, no_blank, at-injective, table-length}
 use Rattle.rdfc_ndegree.proofs.TableLemmas.{zip-find}
-use Rattle.rdfc_canon.specs.Canon.{nodes, labels_of, canonical_ids}
-use Rattle.rdfc_canon.specs.Labelling.{with_label, all_labels}
+use Rattle.rdfc_canon.specs.Canon.{nodes, canonical_labels, canonical_ids}
+use Rattle.rdfc_canon.specs.Internal.Labelling.{with_label, all_labels}
 
 -- ---- texts of blank nodes
 
@@ -76,7 +76,7 @@ module _ (q : List Statement) where
   not-has d b new = false_unless (has (nodes q) d b) (λ e. new (Contains-from_has (nodes q) (nodes-lawful sha256_digits q) d b e))
 
   -- the next blank node gets the next label
-  pub labels-push : (d : List Blank) (b : Blank) → (Contains d b → ⊥) → labels_of q (d ++ b ∷ []) ≡ labels_of q d ++ label (blank_text b) (codes "c14n" ++ decimal (length d)) ∷ []
+  pub labels-push : (d : List Blank) (b : Blank) → (Contains d b → ⊥) → canonical_labels q (d ++ b ∷ []) ≡ canonical_labels q d ++ label (blank_text b) (codes "c14n" ++ decimal (length d)) ∷ []
   labels-push d b new =
       let before : map (its_label (d ++ b ∷ [])) d ≡ map (its_label d) d =
       map-agree (λ x. has (nodes q) d x ≡ true) (its_label (d ++ b ∷ [])) (its_label d) (λ x e. ap (λ k. label (blank_text x) (codes "c14n" ++ decimal k)) (number-append (nodes q) d (b ∷ []) x e)) d
@@ -84,13 +84,13 @@ module _ (q : List Statement) where
       let last : its_label (d ++ b ∷ []) b ≡ label (blank_text b) (codes "c14n" ++ decimal (length d)) = ap (λ k. label (blank_text b) (codes "c14n" ++ decimal k)) (number-new (nodes q) (nodes-lawful sha256_digits q) d b (not-has d b new)) in
       map-append (its_label (d ++ b ∷ [])) d (b ∷ []) ∙ (λ i. before i ++ last i ∷ [])
 
-  pub labels-length : (d : List Blank) → length (labels_of q d) ≡ length d
+  pub labels-length : (d : List Blank) → length (canonical_labels q d) ≡ length d
   labels-length d = length-map d (its_label d)
 
-  pub labels-new : (d : List Blank) (b : Blank) → (Contains d b → ⊥) → find_label (labels_of q d) (blank_text b) ≡ None
+  pub labels-new : (d : List Blank) (b : Blank) → (Contains d b → ⊥) → find_label (canonical_labels q d) (blank_text b) ≡ None
   labels-new d b new = find-none (canonical_id (nodes q) d) d b new
 
-  pub labels-blanks : (d : List Blank) → map (λ (l : TextLabel). l.blank) (labels_of q d) ≡ map blank_text d
+  pub labels-blanks : (d : List Blank) → map (λ (l : TextLabel). l.blank) (canonical_labels q d) ≡ map blank_text d
   labels-blanks d = map-map (λ (l : TextLabel). l.blank) (its_label d) d
 
   front : {X : Type 0} (xs : List X) (x : X) (ys : List X) → AllDiffer (xs ++ x ∷ ys) → Contains xs x → ⊥
@@ -98,14 +98,14 @@ module _ (q : List Statement) where
 
   -- they are c14n0, c14n1 and so on
   abbrev texts : List Blank → List (List ℕ)
-  texts d = map (λ (l : TextLabel). l.text) (labels_of q d)
+  texts d = map (λ (l : TextLabel). l.text) (canonical_labels q d)
 
   numbered-next : (d : List Blank) (b : Blank) → (Contains d b → ⊥) → texts d ≡ canonical_ids (length d) → texts (d ++ b ∷ []) ≡ canonical_ids (length (d ++ b ∷ []))
   numbered-next d b new e =
       let whole = length-append d (b ∷ []) in
       let long : length (d ++ b ∷ []) ≡ suc (length d) = omega arith in
       ap (map (λ (l : TextLabel). l.text)) (labels-push d b new)
-      ∙ map-append (λ (l : TextLabel). l.text) (labels_of q d) (label (blank_text b) (codes "c14n" ++ decimal (length d)) ∷ [])
+      ∙ map-append (λ (l : TextLabel). l.text) (canonical_labels q d) (label (blank_text b) (codes "c14n" ++ decimal (length d)) ∷ [])
       ∙ ap (λ ts. ts ++ (codes "c14n" ++ decimal (length d)) ∷ []) e
       ∙ sym (map-append (λ k. codes "c14n" ++ decimal k) (numbers_below (length d)) (length d ∷ []))
       ∙ ap canonical_ids (sym long)
@@ -126,32 +126,32 @@ module _ (q : List Statement) where
         let long = table-length q bs rows t in
         new (subst (Contains done) (at-injective bs found.0 n t.differ (omega arith) (omega arith) found.2) found.1)
 
-    label-next : (done : List ℕ) (n : ℕ) → (Contains (map (at bs) done) (at bs n) → ⊥) → n < length rows → with_label (labels_of q (map (at bs) done)) (slice_get rows n) ≡ labels_of q (map (at bs) (done ++ n ∷ []))
+    label-next : (done : List ℕ) (n : ℕ) → (Contains (map (at bs) done) (at bs n) → ⊥) → n < length rows → with_label (canonical_labels q (map (at bs) done)) (slice_get rows n) ≡ canonical_labels q (map (at bs) (done ++ n ∷ []))
     label-next done n new lt =
         let d = map (at bs) done in
         let long = table-length q bs rows t in
         let found = zip-find (IsRowOf q bs) bs rows n (at bs n) t.each (slice_get-get_or bs n no_blank (omega arith)) in
         let row = found.0 in
         let named = found.2.name in
-        let none : find_label (labels_of q d) row.blank ≡ None = ap (find_label (labels_of q d)) named ∙ labels-new d (at bs n) new in
-        ap (with_label (labels_of q d)) found.1
-        ∙ ap (λ o. cond (is_some o) (labels_of q d) (labels_of q d ++ label row.blank (codes "c14n" ++ decimal (length (labels_of q d))) ∷ [])) none
-        ∙ (λ i. labels_of q d ++ label (named i) (codes "c14n" ++ decimal (labels-length d i)) ∷ [])
+        let none : find_label (canonical_labels q d) row.blank ≡ None = ap (find_label (canonical_labels q d)) named ∙ labels-new d (at bs n) new in
+        ap (with_label (canonical_labels q d)) found.1
+        ∙ ap (λ o. cond (is_some o) (canonical_labels q d) (canonical_labels q d ++ label row.blank (codes "c14n" ++ decimal (length (canonical_labels q d))) ∷ [])) none
+        ∙ (λ i. canonical_labels q d ++ label (named i) (codes "c14n" ++ decimal (labels-length d i)) ∷ [])
         ∙ sym (labels-push d (at bs n) new)
-        ∙ ap (labels_of q) (sym (map-append (at bs) done (n ∷ [])))
+        ∙ ap (canonical_labels q) (sym (map-append (at bs) done (n ∷ [])))
 
     pub labels-made : (done rest : List ℕ) → AllDiffer (done ++ rest) → AllByRecursion (λ k. k < length rows) done → AllByRecursion (λ k. k < length rows) rest
-        → all_labels rows (labels_of q (map (at bs) done)) rest ≡ labels_of q (map (at bs) (done ++ rest))
-    labels-made done [] a all later = ap (λ ns. labels_of q (map (at bs) ns)) (sym (append-nil done))
+        → all_labels rows (canonical_labels q (map (at bs) done)) rest ≡ canonical_labels q (map (at bs) (done ++ rest))
+    labels-made done [] a all later = ap (λ ns. canonical_labels q (map (at bs) ns)) (sym (append-nil done))
     labels-made done (n ∷ ns) a all later =
         let moved : (done ++ n ∷ []) ++ ns ≡ done ++ n ∷ ns = append_assoc done (n ∷ []) ns in
         ap (λ ls. all_labels rows ls ns) (label-next done n (apart done n all later.0 (front done n ns a)) later.0)
         ∙ labels-made (done ++ n ∷ []) ns (subst AllDiffer (sym moved) a) (Each-append (λ k. k < length rows) done (n ∷ []) all (later.0, tt)) later.1
-        ∙ ap (λ ms. labels_of q (map (at bs) ms)) moved
+        ∙ ap (λ ms. canonical_labels q (map (at bs) ms)) moved
 
   -- ---- lines under these labels
 
-  pub label_in-is : (d : List Blank) (b : Blank) → Contains d b → label_in (labels_of q d) b ≡ canonical_id (nodes q) d b
+  pub label_in-is : (d : List Blank) (b : Blank) → Contains d b → label_in (canonical_labels q d) b ≡ canonical_id (nodes q) d b
   label_in-is d b k = ap (λ o. unwrap_or o []) (find-some (canonical_id (nodes q) d) d b k)
 
   pub lines-agree : (f g : Blank → List ℕ) → ((b : Blank) → StandsIn q b → f b ≡ g b) → canonical_lines f q ≡ canonical_lines g q
@@ -163,26 +163,26 @@ module _ (q : List Statement) where
   not_underscore n f e = absurd (false≢true (sym f ∙ (Decides-eqb n 95).1 e))
 
   module _ (d : List Blank) where
-    found : (b : Blank) → Contains d b → is_some (find_label (labels_of q d) (blank_text b)) ≡ true
+    found : (b : Blank) → Contains d b → is_some (find_label (canonical_labels q d) (blank_text b)) ≡ true
     found b k = ap is_some (find-some (canonical_id (nodes q) d) d b k)
 
-    term-named : (t : Term) → ((b : Blank) → Contains (blanks_of_term t) b → Contains d b) → IsNamed (labels_of q d) (spelling t)
+    term-named : (t : Term) → ((b : Blank) → Contains (blanks_of_term t) b → Contains d b) → IsNamed (canonical_labels q d) (spelling t)
     term-named (iri text) h = λ e. not_underscore 60 refl e
     term-named (literal text datatype language) h = λ e. not_underscore 34 refl e
     term-named (blank b) h = λ e. found b (h b (Contains-here b []))
 
-    graph-named : (g : Option Term) → ((b : Blank) → Contains (blanks_of_graph g) b → Contains d b) → IfSome (option_map spelling g) (IsNamed (labels_of q d))
+    graph-named : (g : Option Term) → ((b : Blank) → Contains (blanks_of_graph g) b → Contains d b) → IfSome (option_map spelling g) (IsNamed (canonical_labels q d))
     graph-named None h = tt
     graph-named (Some t) h = term-named t h
 
-    statement-named : (s : Statement) → ((b : Blank) → Contains (blanks_of s) b → Contains d b) → Names (labels_of q d) (text_quad s)
+    statement-named : (s : Statement) → ((b : Blank) → Contains (blanks_of s) b → Contains d b) → Names (canonical_labels q d) (text_quad s)
     statement-named s h = record {
       subject = term-named s.subject (λ b k. h b (Contains-append_left (blanks_of_term s.subject) (blanks_of_term s.object ++ blanks_of_graph s.graph) b k));
       object = term-named s.object (λ b k. h b (Contains-append_right (blanks_of_term s.subject) (blanks_of_term s.object ++ blanks_of_graph s.graph) b (Contains-append_left (blanks_of_term s.object) (blanks_of_graph s.graph) b k)));
       graph = graph-named s.graph (λ b k. h b (Contains-append_right (blanks_of_term s.subject) (blanks_of_term s.object ++ blanks_of_graph s.graph) b (Contains-append_right (blanks_of_term s.object) (blanks_of_graph s.graph) b k)));
     }
 
-    pub dataset-named : ((b : Blank) → StandsIn q b → Contains d b) → All (Names (labels_of q d)) (map text_quad q)
-    dataset-named h = All-from_contains (Names (labels_of q d)) (map text_quad q) (λ x k.
+    pub dataset-named : ((b : Blank) → StandsIn q b → Contains d b) → All (Names (canonical_labels q d)) (map text_quad q)
+    dataset-named h = All-from_contains (Names (canonical_labels q d)) (map text_quad q) (λ x k.
         let from = Contains-from_map text_quad q x k in
-        subst (Names (labels_of q d)) from.2 (statement-named from.0 (λ b n. h b (to_blanks_in q from.0 b from.1 n))))
+        subst (Names (canonical_labels q d)) from.2 (statement-named from.0 (λ b n. h b (to_blanks_in q from.0 b from.1 n))))

@@ -14,40 +14,41 @@ use Rattle.rdfc_ndegree.specs.declared.table.NodeRow.{NodeRow}
 use Rattle.rdfc_ndegree.proofs.CarryBasics.{AllDiffer-permutation}
 use Rattle.rdfc_ndegree.proofs.Labels.{alone-differ}
 use Rattle.rdfc_ndegree.proofs.Tables.{absent-any}
-use Rattle.rdfc_canon.specs.Numbering.{name_one, name_all, name_each, IsPathOf}
+use Rattle.rdfc_ndegree.specs.NumberIssuers.{issue_number, issue_numbers}
+use Rattle.rdfc_canon.specs.Internal.Numbering.{issue_paths, IsPathOf}
 
 module _ (rows : List NodeRow) where
-  pub name_all-take : (c ns : List ℕ) → name_all c ns ≡ take_issuer (table_nodes rows) c ns
+  pub name_all-take : (c ns : List ℕ) → issue_numbers c ns ≡ take_issuer (table_nodes rows) c ns
   unfolding table_nodes
   name_all-take c [] = refl
-  name_all-take c (n ∷ ns) = name_all-take (name_one c n) ns
+  name_all-take c (n ∷ ns) = name_all-take (issue_number c n) ns
 
-  pub name_each-take : (c : List ℕ) (ps : List NodePath) (os : List (Outcome ℕ)) → AllZip IsPathOf ps os → name_each c ps ≡ take_issuers (table_nodes rows) c os
+  pub name_each-take : (c : List ℕ) (ps : List NodePath) (os : List (Outcome ℕ)) → AllZip IsPathOf ps os → issue_paths c ps ≡ take_issuers (table_nodes rows) c os
   name_each-take c [] [] z = refl
   name_each-take c [] (o ∷ os) z = absurd z
   name_each-take c (p ∷ ps) [] z = absurd z
   name_each-take c (p ∷ ps) (o ∷ os) z =
-      ap (λ d. name_each d ps) (ap (name_all c) z.0.issuer ∙ name_all-take c o.issuer)
+      ap (λ d. issue_paths d ps) (ap (issue_numbers c) z.0.issuer ∙ name_all-take c o.issuer)
       ∙ name_each-take (take_issuer (table_nodes rows) c o.issuer) ps os z.1
 
-pub name_all-append : (c xs ys : List ℕ) → name_all c (xs ++ ys) ≡ name_all (name_all c xs) ys
+pub name_all-append : (c xs ys : List ℕ) → issue_numbers c (xs ++ ys) ≡ issue_numbers (issue_numbers c xs) ys
 name_all-append c [] ys = refl
-name_all-append c (x ∷ xs) ys = name_all-append (name_one c x) xs ys
+name_all-append c (x ∷ xs) ys = name_all-append (issue_number c x) xs ys
 
 -- numbers that differ are named as they come
-pub name_all-differ : (c ns : List ℕ) → AllDiffer (c ++ ns) → name_all c ns ≡ c ++ ns
+pub name_all-differ : (c ns : List ℕ) → AllDiffer (c ++ ns) → issue_numbers c ns ≡ c ++ ns
 name_all-differ c [] a = sym (append-nil c)
 name_all-differ c (n ∷ ns) a =
     let front : AllDiffer (n ∷ (c ++ ns)) = AllDiffer-permutation (c ++ n ∷ ns) (n ∷ (c ++ ns)) (IsPermutation-middle c n ns) a in
     let none : list_any (λ m. m == n) c ≡ false = absent-any c n (λ k. AllDiffer-head n (c ++ ns) front (Contains-append_left c ns n k)) in
     let moved : (c ++ n ∷ []) ++ ns ≡ c ++ n ∷ ns = append_assoc c (n ∷ []) ns in
-    ap (λ b. name_all (cond b c (c ++ n ∷ [])) ns) none ∙ name_all-differ (c ++ n ∷ []) ns (subst AllDiffer (sym moved) a) ∙ moved
+    ap (λ b. issue_numbers (cond b c (c ++ n ∷ [])) ns) none ∙ name_all-differ (c ++ n ∷ []) ns (subst AllDiffer (sym moved) a) ∙ moved
 
-pub alone-named : (rows : List NodeRow) (gs : List (Group ℕ)) → gs ≡ first_groups (table_nodes rows) → name_all [] (alone gs) ≡ alone (first_groups (table_nodes rows))
-alone-named rows gs e = ap (λ hs. name_all [] (alone hs)) e ∙ name_all-differ [] (alone (first_groups (table_nodes rows))) (alone-differ (table_nodes rows))
+pub alone-named : (rows : List NodeRow) (gs : List (Group ℕ)) → gs ≡ first_groups (table_nodes rows) → issue_numbers [] (alone gs) ≡ alone (first_groups (table_nodes rows))
+alone-named rows gs e = ap (λ hs. issue_numbers [] (alone hs)) e ∙ name_all-differ [] (alone (first_groups (table_nodes rows))) (alone-differ (table_nodes rows))
 
 -- the members of a group of one, and of any other
-pub alone-one : (c : List ℕ) (ms : List ℕ) (rest : List ℕ) → length ms ≡ 1 → name_all c (if_alone ms ++ rest) ≡ name_all (name_all c ms) rest
+pub alone-one : (c : List ℕ) (ms : List ℕ) (rest : List ℕ) → length ms ≡ 1 → issue_numbers c (if_alone ms ++ rest) ≡ issue_numbers (issue_numbers c ms) rest
 alone-one c [] rest e = absurd (omega arith)
 alone-one c (m ∷ []) rest e = refl
 alone-one c (m ∷ (n ∷ ns)) rest e = absurd (omega arith)

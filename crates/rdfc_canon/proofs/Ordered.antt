@@ -7,7 +7,7 @@ use Rattle.nquads.specs.Lines.{canonical_text}
 use Rattle.nquads.proofs.ReadingBlanks.{rename-itself}
 use Rattle.rdfc_ndegree.specs.Issuers.{canonical_id}
 use Rattle.rdfc_ndegree.specs.Datasets.{nodes_of}
-use Rattle.rdfc_ndegree.specs.Run.{MeetsTie, WorkOver, DepthOver, HasLabels}
+use Rattle.rdfc_ndegree.specs.Run.{MeetsTie, WorkOver, DepthOver, IsCanonicalIssuer}
 use Rattle.rdfc_ndegree.proofs.Renamed.{MeetsTie-renamed, WorkOver-renamed, DepthOver-renamed, HasLabels-renamed, labels-StandsIn, canonical_text-renamed}
 use Rattle.rdfc_ndegree.proofs.RunAgree.{labels-unique}
 
@@ -35,10 +35,10 @@ module _ (digest : List ℕ → List ℕ) (q p : List Statement) (s : IsPermutat
   pub ordered_depth : (n : ℕ) → DepthOver (nodes_of digest q) n ↔ DepthOver (nodes_of digest p) n
   ordered_depth n = DepthOver-renamed digest (λ b. b) q p (one_to_one q) renamed n
 
-  pub ordered_labels : (c : List Blank) → HasLabels (nodes_of digest q) c → HasLabels (nodes_of digest p) c
-  ordered_labels c h = subst (HasLabels (nodes_of digest p)) (map-itself c) (HasLabels-renamed digest (λ b. b) q p (one_to_one q) renamed c h)
+  pub ordered_labels : (c : List Blank) → IsCanonicalIssuer (nodes_of digest q) c → IsCanonicalIssuer (nodes_of digest p) c
+  ordered_labels c h = subst (IsCanonicalIssuer (nodes_of digest p)) (map-itself c) (HasLabels-renamed digest (λ b. b) q p (one_to_one q) renamed c h)
 
-  pub ordered_text : (c d : List Blank) → HasLabels (nodes_of digest q) c → HasLabels (nodes_of digest p) d → canonical_text (canonical_id (nodes_of digest q) c) q ≡ canonical_text (canonical_id (nodes_of digest p) d) p
+  pub ordered_text : (c d : List Blank) → IsCanonicalIssuer (nodes_of digest q) c → IsCanonicalIssuer (nodes_of digest p) d → canonical_text (canonical_id (nodes_of digest q) c) q ≡ canonical_text (canonical_id (nodes_of digest p) d) p
   ordered_text c d h k =
       sym (canonical_text-renamed digest (λ b. b) q p (one_to_one q) renamed c (labels-StandsIn digest (λ b. b) q p (one_to_one q) renamed c h))
       ∙ ap (λ e. canonical_text (canonical_id (nodes_of digest p) e) p) (labels-unique (HasLabels-renamed digest (λ b. b) q p (one_to_one q) renamed c h) k)

@@ -2,13 +2,14 @@
 use Rattle.std.proofs.Common.{◌≡◌, ℕ, ◌+◌, ◌<◌, ◌≤◌, max, List, [], ◌∷◌, map, length, get_or, drop, All, Contains, Bool, false, ◌||◌, refl, sym, ap, ◌∙◌, subst, arith, drop_of_length-le}
 use Rattle.std.proofs.Math.Bool.{or-false, or_assoc}
 use Rattle.std.proofs.lemmas.List.Elements.{All-drop}
-use Rattle.rdfc_ndegree.specs.Nodes.{Nodes, AreNodes}
+use Rattle.rdfc_ndegree.specs.Nodes.{Nodes}
+use Rattle.rdfc_ndegree.specs.Internal.Nodes.{AreNodes}
 use Rattle.rdfc_ndegree.specs.Groups.{Group}
 use Rattle.rdfc_ndegree.specs.NDegree.{Outcome}
-use Rattle.rdfc_ndegree.specs.Lack.{AreListed}
-use Rattle.rdfc_ndegree.specs.Evaluations.{IsFaultOf}
-use Rattle.rdfc_ndegree.specs.Kept.{group_in}
-use Rattle.rdfc_ndegree.specs.Run.{alone, first_groups, lacking, take_issuers, work_of, depth_of, results_tie, Result, run_end, run_more, Rounds, IsRun, WorkOver, DepthOver}
+use Rattle.rdfc_ndegree.proofs.Lack.{AreListed}
+use Rattle.rdfc_ndegree.specs.Internal.Evaluations.{IsFaultOf}
+use Rattle.rdfc_ndegree.specs.Table.{group_in}
+use Rattle.rdfc_ndegree.specs.Run.{alone, first_groups, lacking, take_issuers, work_of, depth_of, results_tie, RunOutcome, run_end, run_more, Rounds, IsRun, WorkOver, DepthOver}
 use Rattle.rdfc_ndegree.specs.Table.{table_nodes}
 use Rattle.rdfc_ndegree.specs.declared.limits.CanonFault.{CanonFault}
 use Rattle.rdfc_ndegree.specs.declared.limits.Limits.{Limits}
@@ -19,17 +20,28 @@ use Rattle.rdfc_ndegree.proofs.Exists.{in_hash_order, rounds-exist}
 use Rattle.rdfc_ndegree.proofs.Loops.{next_item, Counting, counting-start, counting-turn}
 use Rattle.rdfc_ndegree.proofs.Rows.{groups-rows}
 use Rattle.rdfc_ndegree.proofs.Steps.{same_fault}
-use Rattle.rdfc_canon.specs.Numbering.{AnswersRound, AnswersNumbers, HashesOver, HashesDeep, Running, adding, name_all}
+use Rattle.rdfc_canon.specs.Internal.Numbering.{AnswersRound, AnswersNumbers, HashesOver, HashesDeep}
+use Rattle.rdfc_ndegree.specs.NumberIssuers.{issue_numbers}
 use Rattle.rdfc_canon.proofs.Namings.{alone-named}
 
+-- a result with earlier groups in front: their tie, their work and their depth
+abbrev pub run_after : {B : Type 0} → Bool → ℕ → ℕ → RunOutcome B → RunOutcome B
+run_after tie work deep r = record { issuer = r.issuer; tie = tie || r.tie; work = work + r.work; depth = max deep r.depth }
+
+-- In the run, the groups `rest` are left, with this canonical issuer and tie so far.
+pub record Running {B : Type 0} (v : Nodes B) (c : List B) (tie : Bool) (rest : List (Group B)) (spent limit : ℕ) : Type 0 where
+  pub deep : ℕ
+  pub goes_on : (r : RunOutcome B) → Rounds v c rest r → IsRun v (run_after tie spent deep r)
+  pub within : deep ≤ limit
+
 module _ {B : Type 0} (v : Nodes B) where
-  adding-none : (r : Result B) → r ≡ adding false 0 0 r
+  adding-none : (r : RunOutcome B) → r ≡ run_after false 0 0 r
   adding-none r =
       let w : r.work ≡ 0 + r.work = omega arith in
       let d : r.depth ≡ max 0 r.depth = omega arith in
       λ i. record { issuer = r.issuer; tie = r.tie; work = w i; depth = d i }
 
-  adding-more : (tie tied : Bool) (spent next deep : ℕ) (os : List (Outcome B)) (r : Result B) → tied ≡ results_tie os → next ≡ spent + work_of os → adding tie spent deep (run_more os r) ≡ adding (tie || tied) next (max deep (depth_of os)) r
+  adding-more : (tie tied : Bool) (spent next deep : ℕ) (os : List (Outcome B)) (r : RunOutcome B) → tied ≡ results_tie os → next ≡ spent + work_of os → run_after tie spent deep (run_more os r) ≡ run_after (tie || tied) next (max deep (depth_of os)) r
   adding-more tie tied spent next deep os r is new =
       let t = sym (or_assoc tie (results_tie os) r.tie) ∙ ap (λ b. (tie || b) || r.tie) (sym is) in
       let w : spent + (work_of os + r.work) ≡ next + r.work = omega arith in
@@ -59,7 +71,7 @@ module _ {B : Type 0} (v : Nodes B) where
   running-end {c = c} {tie = tie} {spent = spent} {work_limit = work_limit} {limit = limit} w fits =
       let low : w.deep ≤ limit = w.within in
       record {
-        run = adding tie spent w.deep (run_end c);
+        run = run_after tie spent w.deep (run_end c);
         is_run = w.goes_on (run_end c) refl;
         issuer_is = refl;
         tie_is = sym (or-false tie);
@@ -76,7 +88,7 @@ module _ {B : Type 0} {v : Nodes B} (laws : AreNodes v) where
       let rest = rounds-exist laws (take_issuers v c sorted.0) gs listed in
       let over : n < spent + work_of d.outcomes = d.over in
       record {
-        run = adding tie spent w.deep (run_more d.outcomes rest.0);
+        run = run_after tie spent w.deep (run_more d.outcomes rest.0);
         is_run = w.goes_on (run_more d.outcomes rest.0) record { outcomes = d.outcomes; sorted = sorted.0; rest = rest.0; hashed = d.hashed; order = sorted.1; in_order = sorted.2; goes_on = rest.1; is = refl };
         over = omega arith;
       }
@@ -88,7 +100,7 @@ module _ {B : Type 0} {v : Nodes B} (laws : AreNodes v) where
       let rest = rounds-exist laws (take_issuers v c sorted.0) gs listed in
       let over : n < depth_of d.outcomes = d.over in
       record {
-        run = adding tie spent w.deep (run_more d.outcomes rest.0);
+        run = run_after tie spent w.deep (run_more d.outcomes rest.0);
         is_run = w.goes_on (run_more d.outcomes rest.0) record { outcomes = d.outcomes; sorted = sorted.0; rest = rest.0; hashed = d.hashed; order = sorted.1; in_order = sorted.2; goes_on = rest.1; is = refl };
         over = omega arith;
       }
@@ -101,7 +113,7 @@ pub record InRunLoop (rows : List NodeRow) (c : List ℕ) (tie : Bool) (rest : L
   pub running : Running (table_nodes rows) c tie (map group_in rest) meter.spent before.limits.depth
 
 module _ (rows : List NodeRow) where
-  pub run-start : (c : List ℕ) (gs : List NodeGroup) (meter : Meter) → meter.spent ≡ 0 → c ≡ name_all [] (alone (map group_in gs)) → map group_in gs ≡ first_groups (table_nodes rows) → InRunLoop rows c false gs meter meter
+  pub run-start : (c : List ℕ) (gs : List NodeGroup) (meter : Meter) → meter.spent ≡ 0 → c ≡ issue_numbers [] (alone (map group_in gs)) → map group_in gs ≡ first_groups (table_nodes rows) → InRunLoop rows c false gs meter meter
   run-start c gs meter none begun all = record {
     counting = counting-start meter;
     running =

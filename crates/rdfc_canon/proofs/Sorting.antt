@@ -14,7 +14,7 @@ use Rattle.rdfc_ndegree.specs.Run.{InHashOrder, results_tie}
 use Rattle.rdfc_ndegree.specs.declared.path.NodePath.{NodePath}
 use Rattle.rdfc_ndegree.proofs.AgreeBasics.{bytes_eq-true, bytes_eq-same, false_unless}
 use Rattle.rdfc_ndegree.proofs.Grouping.{upto_if}
-use Rattle.rdfc_canon.specs.Numbering.{IsPathOf, next_has, neighbours_tie}
+use Rattle.rdfc_canon.specs.Internal.Numbering.{IsPathOf, next_has, neighbours_tie}
 
 -- each path's hash is up to those after it
 abbrev pub Up : List NodePath → Type 0

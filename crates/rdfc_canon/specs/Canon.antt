@@ -12,15 +12,15 @@ use Rattle.rdfc_ndegree.specs.Nodes.{Nodes}
 use Rattle.rdfc_ndegree.specs.Issuers.{canonical_id}
 use Rattle.rdfc_ndegree.specs.Datasets.{nodes_of}
 use Rattle.rdfc_ndegree.specs.Table.{numbers_below}
-pub use Rattle.rdfc_ndegree.specs.Run.{Result, IsRun, MeetsTie, WorkOver, DepthOver, WithinLimits, HasLabels}
+pub use Rattle.rdfc_ndegree.specs.Run.{RunOutcome, IsRun, MeetsTie, WorkOver, DepthOver, WithinLimits, IsCanonicalIssuer}
 
 -- the blank nodes of a dataset, with SHA-256 as the hash algorithm. -- RDF Canonicalization, 4.3
 abbrev pub nodes : List Statement → Nodes Blank
 nodes q = nodes_of sha256_digits q
 
 -- the labels that a canonical issuer gives, in its order
-abbrev pub labels_of : List Statement → List Blank → List TextLabel
-labels_of q c = map (λ b. label (blank_text b) (canonical_id (nodes q) c b)) c
+abbrev pub canonical_labels : List Statement → List Blank → List TextLabel
+canonical_labels q c = map (λ b. label (blank_text b) (canonical_id (nodes q) c b)) c
 
 -- the identifiers c14n0, c14n1 and so on, this many
 abbrev pub canonical_ids : ℕ → List (List ℕ)
@@ -35,9 +35,9 @@ pub record NameAll (q : List Statement) (labels : List TextLabel) : Type 0 where
 -- The labels, the tie and the work are those of one run, neither its work nor its depth is over its limit,
 -- and the lines are those of the dataset under its labels, in code-point order.
 pub record AnswersRun (q : List Statement) (work_limit depth_limit : ℕ) (labels : List TextLabel) (lines : List (List ℕ)) (tie : Bool) (work : ℕ) : Type 0 where
-  pub run : Result Blank
+  pub run : RunOutcome Blank
   pub is_run : IsRun (nodes q) run
-  pub labels_are : labels ≡ labels_of q run.issuer
+  pub labels_are : labels ≡ canonical_labels q run.issuer
   pub lines_are : lines ≡ canonical_lines (canonical_id (nodes q) run.issuer) q
   pub tie_is : tie ≡ run.tie
   pub work_is : work ≡ run.work

@@ -1,4 +1,2 @@
 pub mod Canon
-pub mod Form
-pub mod Labelling
-pub mod Numbering
+pub mod Internal

@@ -3,11 +3,11 @@ ghost use Rattle.nquads.specs.Terms.{Blank, Statement, IsStatement};
 ghost use Rattle.nquads.specs.Lines.{canonical_lines};
 ghost use Rattle.nquads.specs.Spelling.{text_quad};
 ghost use Rattle.rdfc_ndegree.specs.declared.limits.CanonFault.TheVariants as fault;
-ghost use Rattle.rdfc_canon.specs.Canon.{nodes, labels_of, NameAll, AnswersRun, Result, IsRun, MeetsTie, WorkOver, DepthOver, WithinLimits};
-ghost use Rattle.rdfc_canon.specs.Form.{Canonicalised};
+ghost use Rattle.rdfc_canon.specs.Canon.{nodes, canonical_labels, NameAll, AnswersRun, RunOutcome, IsRun, MeetsTie, WorkOver, DepthOver, WithinLimits};
+ghost use Rattle.rdfc_canon.specs.Internal.Form.{Canonicalised};
 
 use crate::numbering::run;
-use crate::relabel::{canonical_lines, labels_of};
+use crate::relabel::{canonical_labels, canonical_lines};
 use base_types::{Sequence, Text};
 use nquads::{TextLabels, TextQuads};
 use rdfc_first::first_hashes;
@@ -43,7 +43,7 @@ pub fn canonicalise(alloc: Global, quads: &TextQuads, limits: &Limits) -> Result
     // A tie is reported exactly where a run meets one, and without one every run gives these labels.
     ensures tie { (q : List Statement) → quads.now ≡ map text_quad q → IfOk result (λ c. (c.tie ≡ true) ↔ MeetsTie (nodes q)) }
     ensures every_run { (q : List Statement) → quads.now ≡ map text_quad q
-        → IfOk result (λ c. c.tie ≡ false → (r : Result Blank) → IsRun (nodes q) r → c.labels ≡ labels_of q r.issuer) }
+        → IfOk result (λ c. c.tie ≡ false → (r : RunOutcome Blank) → IsRun (nodes q) r → c.labels ≡ canonical_labels q r.issuer) }
     // A limit is answered only where some run is over it, and so not within both limits.
     ensures work { (q : List Statement) (limit : ℕ) → quads.now ≡ map text_quad q → result ≡ Err (fault.TooMuchWork limit)
         → (limit ≡ limits.now.work) × WorkOver (nodes q) limit }
@@ -62,7 +62,7 @@ fn canonical_form(alloc: Global, quads: &TextQuads, limits: &Limits) -> Result<C
     let firsts = first_hashes(alloc, quads)?;
     let table = node_table(alloc, quads, firsts.as_slice(), &[])?;
     let numbered = run(alloc, &table, limits)?;
-    let labels = labels_of(alloc, &table, numbered.canonical.as_slice())?;
+    let labels = canonical_labels(alloc, &table, numbered.canonical.as_slice())?;
     let lines = canonical_lines(alloc, quads, &labels)?;
     Ok(Canon {
         labels,

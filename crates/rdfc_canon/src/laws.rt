@@ -7,26 +7,26 @@ ghost use Rattle.nquads.specs.Renaming.{Same, StandsIn, image};
 ghost use Rattle.nquads.specs.Lines.{canonical_text};
 ghost use Rattle.rdfc_ndegree.specs.Issuers.{canonical_id};
 ghost use Rattle.rdfc_ndegree.specs.Datasets.{nodes_of};
-ghost use Rattle.rdfc_canon.specs.Canon.{DepthOver, HasLabels, IsRun, MeetsTie, Result, WorkOver};
+ghost use Rattle.rdfc_canon.specs.Canon.{DepthOver, IsCanonicalIssuer, IsRun, MeetsTie, RunOutcome, WorkOver};
 
 /// Every dataset has a run, whatever the digest is.
 pub fn every_dataset_has_a_run()
-    ensures { (digest : List ℕ → List ℕ) (q : List Statement) → (r : Result Blank) × IsRun (nodes_of digest q) r }
+    ensures { (digest : List ℕ → List ℕ) (q : List Statement) → (r : RunOutcome Blank) × IsRun (nodes_of digest q) r }
 {}
 
 /// The runs of a dataset agree on whether a tie is met, and without one on the canonical issuer.
 pub fn runs_agree()
-    ensures tie { (digest : List ℕ → List ℕ) (q : List Statement) (r s : Result Blank)
+    ensures tie { (digest : List ℕ → List ℕ) (q : List Statement) (r s : RunOutcome Blank)
         → IsRun (nodes_of digest q) r → IsRun (nodes_of digest q) s → r.tie ≡ s.tie }
-    ensures labels { (digest : List ℕ → List ℕ) (q : List Statement) (r s : Result Blank)
+    ensures labels { (digest : List ℕ → List ℕ) (q : List Statement) (r s : RunOutcome Blank)
         → IsRun (nodes_of digest q) r → IsRun (nodes_of digest q) s → r.tie ≡ false → r.issuer ≡ s.issuer }
 {}
 
 /// The canonical issuer of a run names each blank node of the dataset once, and nothing else.
 pub fn a_run_names_each_blank_node_once()
-    ensures each { (digest : List ℕ → List ℕ) (q : List Statement) (r : Result Blank) (b : Blank)
+    ensures each { (digest : List ℕ → List ℕ) (q : List Statement) (r : RunOutcome Blank) (b : Blank)
         → IsRun (nodes_of digest q) r → StandsIn q b ↔ Contains r.issuer b }
-    ensures once { (digest : List ℕ → List ℕ) (q : List Statement) (r : Result Blank)
+    ensures once { (digest : List ℕ → List ℕ) (q : List Statement) (r : RunOutcome Blank)
         → IsRun (nodes_of digest q) r → AllDiffer r.issuer }
 {}
 
@@ -41,9 +41,9 @@ pub fn names_do_not_matter()
     ensures depth { (digest : List ℕ → List ℕ) (q p : List Statement) (n : ℕ) → Same q p → IsDataset q → IsDataset p
         → DepthOver (nodes_of digest q) n ↔ DepthOver (nodes_of digest p) n }
     ensures labels { (digest : List ℕ → List ℕ) (q p : List Statement) (s : Same q p) (c : List Blank) → IsDataset q → IsDataset p
-        → HasLabels (nodes_of digest q) c → HasLabels (nodes_of digest p) (map (image s.pairs) c) }
+        → IsCanonicalIssuer (nodes_of digest q) c → IsCanonicalIssuer (nodes_of digest p) (map (applied s.pairs) c) }
     ensures text { (digest : List ℕ → List ℕ) (q p : List Statement) (c d : List Blank) → Same q p → IsDataset q → IsDataset p
-        → HasLabels (nodes_of digest q) c → HasLabels (nodes_of digest p) d
+        → IsCanonicalIssuer (nodes_of digest q) c → IsCanonicalIssuer (nodes_of digest p) d
         → canonical_text (canonical_id (nodes_of digest q) c) q ≡ canonical_text (canonical_id (nodes_of digest p) d) p }
 {}
 
@@ -56,8 +56,8 @@ pub fn order_does_not_matter()
     ensures depth { (digest : List ℕ → List ℕ) (q p : List Statement) (n : ℕ) → IsPermutation q p
         → DepthOver (nodes_of digest q) n ↔ DepthOver (nodes_of digest p) n }
     ensures labels { (digest : List ℕ → List ℕ) (q p : List Statement) (c : List Blank) → IsPermutation q p
-        → HasLabels (nodes_of digest q) c → HasLabels (nodes_of digest p) c }
+        → IsCanonicalIssuer (nodes_of digest q) c → IsCanonicalIssuer (nodes_of digest p) c }
     ensures text { (digest : List ℕ → List ℕ) (q p : List Statement) (c d : List Blank) → IsPermutation q p
-        → HasLabels (nodes_of digest q) c → HasLabels (nodes_of digest p) d
+        → IsCanonicalIssuer (nodes_of digest q) c → IsCanonicalIssuer (nodes_of digest p) d
         → canonical_text (canonical_id (nodes_of digest q) c) q ≡ canonical_text (canonical_id (nodes_of digest p) d) p }
 {}

@@ -1,11 +1,11 @@
 //! The run over the numbers of a table (RDF Dataset Canonicalization, 4.4.3, steps 3 to 5).
 ghost use Rattle.std.specs.Prelude.{◌≡◌, IfOk, IfErr};
-ghost use Rattle.rdfc_ndegree.specs.Evaluations.{IsFaultOf};
+ghost use Rattle.rdfc_ndegree.specs.Internal.Evaluations.{IsFaultOf};
 ghost use Rattle.rdfc_ndegree.specs.Run.{DepthOver, WorkOver};
 ghost use Rattle.rdfc_ndegree.specs.Table.{IsClosed, table_nodes};
-ghost use Rattle.rdfc_canon.specs.Numbering.{AnswersNumbers};
+ghost use Rattle.rdfc_canon.specs.Internal.Numbering.{AnswersNumbers};
 
-use crate::naming::name_alone;
+use crate::naming::issue_alone;
 use crate::rounds::round;
 use rdfc_ndegree::{CanonFault, Canonical, Limits, Meter, NodeTable, first_groups};
 use std::alloc::Global;
@@ -13,7 +13,7 @@ use std::alloc::Global;
 /// The canonical numbers of the nodes of a table, whether they depend on the order of equals, and how many
 /// arrangements were evaluated.
 #[derive(Debug, Drop)]
-pub struct Numbered {
+pub struct CanonicalNumbers {
     pub canonical: Canonical,
     pub tie: bool,
     pub work: u64,
@@ -22,14 +22,14 @@ pub struct Numbered {
 /// Numbers the nodes of a table.
 ///
 /// Errors: `TooMuchWork` and `TooDeep`, where a run is over the limit, which they carry; `Memory`.
-pub fn run(alloc: Global, table: &NodeTable, limits: &Limits) -> Result<Numbered, CanonFault>
+pub fn run(alloc: Global, table: &NodeTable, limits: &Limits) -> Result<CanonicalNumbers, CanonFault>
     ensures closed { IsClosed table.now }
     ensures ok { IfOk result (λ n. AnswersNumbers (table_nodes table.now) limits.now.work limits.now.depth n.canonical n.tie n.work) }
     ensures fault { IfErr result (IsFaultOf limits.now (WorkOver (table_nodes table.now)) (DepthOver (table_nodes table.now))) }
 {
     let groups = first_groups(alloc, table)?;
     let mut canonical = Canonical::new(alloc, table.len())?;
-    name_alone(&mut canonical, groups.as_slice())?;
+    issue_alone(&mut canonical, groups.as_slice())?;
     let mut meter = Meter {
         spent: 0,
         limits: *limits,
@@ -40,7 +40,7 @@ pub fn run(alloc: Global, table: &NodeTable, limits: &Limits) -> Result<Numbered
         let tied = round(alloc, table, &mut canonical, members, &mut meter)?;
         tie |= tied;
     }
-    Ok(Numbered {
+    Ok(CanonicalNumbers {
         canonical,
         tie,
         work: meter.spent,

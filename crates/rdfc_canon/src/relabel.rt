@@ -5,7 +5,7 @@ ghost use Rattle.nquads.specs.Lines.{canonical_lines, line};
 ghost use Rattle.nquads.specs.Spelling.{text_quad};
 ghost use Rattle.nquads.specs.Terms.{Statement};
 ghost use Rattle.nquads.specs.Texts.{Names, label_in};
-ghost use Rattle.rdfc_canon.specs.Labelling.{all_labels, with_label};
+ghost use Rattle.rdfc_canon.specs.Internal.Labelling.{all_labels, with_label};
 
 use base_types::{Memory, Sequence, Text};
 use nquads::{TextLabels, TextQuad, TextQuads, line_of, names};
@@ -13,7 +13,7 @@ use rdfc_ndegree::NodeTable;
 use std::alloc::Global;
 
 /// The labels of the nodes, c14n0, c14n1 and so on in this order.
-pub fn labels_of(alloc: Global, table: &NodeTable, order: &[usize]) -> Result<TextLabels, Memory>
+pub fn canonical_labels(alloc: Global, table: &NodeTable, order: &[usize]) -> Result<TextLabels, Memory>
     ensures { IfOk result (λ labels. labels ≡ all_labels table.now [] order.now) }
 {
     let mut labels = TextLabels::new(alloc);

@@ -1,11 +1,11 @@
 //! One group of nodes that have one first-degree hash (RDF Dataset Canonicalization, 4.4.3, step 5).
 ghost use Rattle.std.specs.Prelude.{◌≡◌, ◌<◌, ◌≤◌, ◌++◌, ◌∷◌, [], All, length, map, IfOk, IfErr};
-ghost use Rattle.rdfc_ndegree.specs.Evaluations.{IsFaultOf};
+ghost use Rattle.rdfc_ndegree.specs.Internal.Evaluations.{IsFaultOf};
 ghost use Rattle.rdfc_ndegree.specs.Run.{lacking};
 ghost use Rattle.rdfc_ndegree.specs.Table.{IsClosed, table_nodes};
-ghost use Rattle.rdfc_canon.specs.Numbering.{AnswersHashes, AnswersRound, HashesDeep, HashesOver, neighbours_tie, next_has};
+ghost use Rattle.rdfc_canon.specs.Internal.Numbering.{AnswersHashes, AnswersRound, HashesDeep, HashesOver, neighbours_tie, next_has};
 
-use crate::naming::name_paths;
+use crate::naming::issue_paths;
 use rdfc_ndegree::{
     CanonFault, Canonical, Memory, Meter, NodePath, NodeTable, Sequence, hash_n_degree,
 };
@@ -38,7 +38,7 @@ pub fn round(
         { path.hash },
     );
     let tie = meets_tie(paths.as_slice());
-    name_paths(canonical, paths.as_slice())?;
+    issue_paths(canonical, paths.as_slice())?;
     Ok(tie)
 }
 
@@ -85,7 +85,7 @@ fn meets_tie(paths: &[NodePath]) -> bool
 {
     let mut rest = paths;
     while let Some((path, later)) = rest.split_first() {
-        if path.tie || starts_with(later, &path.hash) {
+        if path.tie || next_has(later, &path.hash) {
             return true;
         }
         rest = later;
@@ -94,7 +94,7 @@ fn meets_tie(paths: &[NodePath]) -> bool
 }
 
 /// Whether the first result has this hash.
-fn starts_with(paths: &[NodePath], hash: &[u8; 64]) -> bool
+fn next_has(paths: &[NodePath], hash: &[u8; 64]) -> bool
     ensures { result ≡ next_has hash.now paths.now }
 {
     match paths.first() {

@@ -12,7 +12,7 @@ use Rattle.base_types.proofs.Lists.{Contains-here, Contains-nil, Contains-cons_c
 use Rattle.base_types.proofs.Orders.{is_upto-antisymmetric}
 use Rattle.rdfc_ndegree.specs.Nodes.{Nodes}
 use Rattle.rdfc_ndegree.specs.Groups.{Group, related_groups}
-use Rattle.rdfc_ndegree.specs.NDegree.{Outcome, Trail, Choice, Calls, entry, trail_more, Nested, Evaluates, AreArrangements, counts, meets_tie, IsChoice, InGroups, IsCall, IsNDegreeWithin, IsNDegree}
+use Rattle.rdfc_ndegree.specs.NDegree.{Outcome, Trail, Choice, Calls, path_part, trail_more, Nested, Evaluates, AreArrangements, counts, meets_tie, IsChoice, InGroups, IsCall, IsNDegreeWithin, IsNDegree}
 use Rattle.rdfc_ndegree.proofs.Basics.{AllZip-from_left, AllZip-from_right, AllZip-weaker}
 use Rattle.rdfc_ndegree.proofs.AgreeBasics.{same_tests, bytes_eq-true, bytes_eq-same, begins, begins-starts_with, begins-refl, begins-append, one_side, begins-other, begins-later, list_any-false, list_any-none, once, count_by-one, AllZip-join, AllZip-count_by, Differ-from_AllDiffer, Paired, paired}
 
@@ -65,7 +65,7 @@ nested_within : {B : Type 0} (v : Nodes B) (calls : Calls B) (i : List B) (path 
 nested_within v calls i path [] t d = subst (IsWithin path) (sym d) record { begun = begins-refl path; every = λ y c. absurd (Contains-nil y c) }
 nested_within v calls i path (m ∷ ms) t d =
     subst (IsWithin path) (sym d.is)
-    (within_more path (entry v i m d.outcome.hash) d.outcome d.rest (nested_within v calls d.outcome.issuer (path ++ entry v i m d.outcome.hash) ms d.rest d.goes_on))
+    (within_more path (path_part v i m d.outcome.hash) d.outcome d.rest (nested_within v calls d.outcome.issuer (path ++ path_part v i m d.outcome.hash) ms d.rest d.goes_on))
 
 parted_here : {B : Type 0} (path es : List ℕ) (o : Outcome B) (u t : Trail B) → o.tie ≡ true → IsWithin (path ++ es) u → t ≡ trail_more path o u → IsParted path t
 parted_here path es o u t e w is =
@@ -116,15 +116,15 @@ module _ {B : Type 0} (v : Nodes B) (calls others : Calls B) where
       go true f =
           inr (
             path,
-            parted_here path (entry v i m d.outcome.hash) d.outcome d.rest t f (nested_within v calls d.outcome.issuer (path ++ entry v i m d.outcome.hash) ms d.rest d.goes_on) d.is,
-            parted_here path (entry v i m e.outcome.hash) e.outcome e.rest u (sym same.0 ∙ f) (nested_within v others e.outcome.issuer (path ++ entry v i m e.outcome.hash) ms e.rest e.goes_on) e.is,
+            parted_here path (path_part v i m d.outcome.hash) d.outcome d.rest t f (nested_within v calls d.outcome.issuer (path ++ path_part v i m d.outcome.hash) ms d.rest d.goes_on) d.is,
+            parted_here path (path_part v i m e.outcome.hash) e.outcome e.rest u (sym same.0 ∙ f) (nested_within v others e.outcome.issuer (path ++ path_part v i m e.outcome.hash) ms e.rest e.goes_on) e.is,
           )
       go false f =
           let equal = same.1 f in
-          let hashed : Nested v others e.outcome.issuer (path ++ entry v i m d.outcome.hash) ms e.rest = subst (λ h. Nested v others e.outcome.issuer (path ++ entry v i m h) ms e.rest) (sym equal.0) e.goes_on in
-          let moved : Nested v others d.outcome.issuer (path ++ entry v i m d.outcome.hash) ms e.rest = subst (λ j. Nested v others j (path ++ entry v i m d.outcome.hash) ms e.rest) (sym equal.1) hashed in
+          let hashed : Nested v others e.outcome.issuer (path ++ path_part v i m d.outcome.hash) ms e.rest = subst (λ h. Nested v others e.outcome.issuer (path ++ path_part v i m h) ms e.rest) (sym equal.0) e.goes_on in
+          let moved : Nested v others d.outcome.issuer (path ++ path_part v i m d.outcome.hash) ms e.rest = subst (λ j. Nested v others j (path ++ path_part v i m d.outcome.hash) ms e.rest) (sym equal.1) hashed in
           alike_kept t u d.rest e.rest (kept path d.outcome d.rest t f d.is) (kept path e.outcome e.rest u (sym same.0 ∙ f) e.is)
-          (later d.outcome.issuer (path ++ entry v i m d.outcome.hash) d.rest e.rest d.goes_on moved)
+          (later d.outcome.issuer (path ++ path_part v i m d.outcome.hash) d.rest e.rest d.goes_on moved)
 
   nested_alike : CallsAgree calls others → (ms : List B) → NestedAlike ms
   nested_alike agree [] i path t u d e = inl record {

@@ -10,9 +10,10 @@ use Rattle.base_types.specs.Sets.{AllDiffer}
 use Rattle.base_types.proofs.Lists.{Contains-here, Contains-there, Contains-cons_cases, Contains-nil, Contains-map, Contains-from_map}
 use Rattle.base_types.proofs.Rising.{rising-same}
 use Rattle.nquads.proofs.ReadingElements.{AllDiffer-cons, AllDiffer-head, AllDiffer-tail}
-use Rattle.rdfc_ndegree.specs.Nodes.{Nodes, AreNodes}
+use Rattle.rdfc_ndegree.specs.Nodes.{Nodes}
+use Rattle.rdfc_ndegree.specs.Internal.Nodes.{AreNodes}
 use Rattle.rdfc_ndegree.specs.Issuers.{has, number, issue}
-use Rattle.rdfc_ndegree.specs.Groups.{Hashed, Group, group_of, grouped}
+use Rattle.rdfc_ndegree.specs.Groups.{NodeHash, Group, group_of, groups_by_hash}
 
 -- ---- membership
 
@@ -182,28 +183,28 @@ module _ {B : Type 0} (v : Nodes B) where
 -- ---- groups
 
 -- a member of a group is a node of which the group's hash was taken
-pub record IsHashed {B : Type 0} (hs : List (Hashed B)) (hash : List ℕ) (m : B) : Type 0 where
-  pub of : Hashed B
+pub record IsHashed {B : Type 0} (hs : List (NodeHash B)) (hash : List ℕ) (m : B) : Type 0 where
+  pub of : NodeHash B
   pub within : Contains hs of
   pub hash_is : of.hash ≡ hash
   pub node_is : of.node ≡ m
 
-pub group_of-member : {B : Type 0} (hs : List (Hashed B)) (hash : List ℕ) (m : B) → Contains (group_of hs hash).members m → IsHashed hs hash m
+pub group_of-member : {B : Type 0} (hs : List (NodeHash B)) (hash : List ℕ) (m : B) → Contains (group_of hs hash).members m → IsHashed hs hash m
 group_of-member {B} hs hash m k =
-    let found = Contains-from_map (λ (h : Hashed B). h.node) (filter (λ h. bytes_eq h.hash hash) hs) m k in
+    let found = Contains-from_map (λ (h : NodeHash B). h.node) (filter (λ h. bytes_eq h.hash hash) hs) m k in
     let passed = Contains-from_filter (λ h. bytes_eq h.hash hash) hs found.0 found.1 in
     record { of = found.0; within = passed.0; hash_is = (bytes_eq-Decides found.0.hash hash).0 passed.1; node_is = found.2 }
 
-pub member-group_of : {B : Type 0} (hs : List (Hashed B)) (h : Hashed B) → Contains hs h → Contains (group_of hs h.hash).members h.node
+pub member-group_of : {B : Type 0} (hs : List (NodeHash B)) (h : NodeHash B) → Contains hs h → Contains (group_of hs h.hash).members h.node
 member-group_of {B} hs h k =
-    Contains-map (λ (g : Hashed B). g.node) (filter (λ g. bytes_eq g.hash h.hash) hs) h (Contains-filter (λ g. bytes_eq g.hash h.hash) hs h k ((bytes_eq-Decides h.hash h.hash).1 refl))
+    Contains-map (λ (g : NodeHash B). g.node) (filter (λ g. bytes_eq g.hash h.hash) hs) h (Contains-filter (λ g. bytes_eq g.hash h.hash) hs h k ((bytes_eq-Decides h.hash h.hash).1 refl))
 
-pub grouped-member : {B : Type 0} (hs : List (Hashed B)) (g : Group B) (m : B) → Contains (grouped hs) g → Contains g.members m → IsHashed hs g.hash m
+pub grouped-member : {B : Type 0} (hs : List (NodeHash B)) (g : Group B) (m : B) → Contains (groups_by_hash hs) g → Contains g.members m → IsHashed hs g.hash m
 grouped-member {B} hs g m k l =
-    let found = Contains-from_map (group_of hs) (sorted_set (map (λ (h : Hashed B). h.hash) hs)) g k in
+    let found = Contains-from_map (group_of hs) (sorted_set (map (λ (h : NodeHash B). h.hash) hs)) g k in
     subst (λ (z : Group B). IsHashed hs z.hash m) found.2 (group_of-member hs found.0 m (subst (λ (z : Group B). Contains z.members m) (sym found.2) l))
 
 -- each hash has its group
-pub grouped-has : {B : Type 0} (hs : List (Hashed B)) (h : Hashed B) → Contains hs h → Contains (grouped hs) (group_of hs h.hash)
+pub grouped-has : {B : Type 0} (hs : List (NodeHash B)) (h : NodeHash B) → Contains hs h → Contains (groups_by_hash hs) (group_of hs h.hash)
 grouped-has {B} hs h k =
-    Contains-map (group_of hs) (sorted_set (map (λ (g : Hashed B). g.hash) hs)) h.hash ((rising-same (map (λ (g : Hashed B). g.hash) hs) h.hash).1 (Contains-map (λ (g : Hashed B). g.hash) hs h k))
+    Contains-map (group_of hs) (sorted_set (map (λ (g : NodeHash B). g.hash) hs)) h.hash ((rising-same (map (λ (g : NodeHash B). g.hash) hs) h.hash).1 (Contains-map (λ (g : NodeHash B). g.hash) hs h k))

@@ -15,7 +15,7 @@ use Rattle.base_types.proofs.Orders.{is_upto-refl, is_upto-back, is_upto-transit
 use Rattle.std.proofs.lemmas.Map.Lookups.{exact_bytes}
 use Rattle.std.specs.declared.cmp.Ordering.TheVariants.{Less, Equal, Greater}
 use Rattle.rdfc_ndegree.specs.NDegree.{Trail, counts, meets_tie, total_work, greatest_depth}
-use Rattle.rdfc_ndegree.specs.Evaluations.{all_ties, IsAmong, IsBestOf, IsPlaceOf}
+use Rattle.rdfc_ndegree.specs.Internal.Evaluations.{all_ties, IsAmong, IsBestOf, IsPlaceOf}
 use Rattle.rdfc_ndegree.proofs.AgreeBasics.{bytes_eq-true, bytes_eq-same}
 
 apart : (path other least : List ℕ) → is_upto least other ≡ true → is_upto least path ≡ false → bytes_eq other path ≡ false

@@ -10,9 +10,10 @@ use Rattle.base_types.specs.Sets.{AllDiffer}
 use Rattle.base_types.proofs.Lists.{Contains-here, Contains-there, Contains-cons_cases, Contains-nil, Contains-map, Contains-from_map}
 use Rattle.nquads.specs.FirstDegree.{each_once}
 use Rattle.nquads.proofs.ReadingElements.{AllDiffer-nil, AllDiffer-cons, AllDiffer-head, AllDiffer-tail, AllDiffer-map}
-use Rattle.rdfc_ndegree.specs.Nodes.{Nodes, AreNodes}
+use Rattle.rdfc_ndegree.specs.Nodes.{Nodes}
+use Rattle.rdfc_ndegree.specs.Internal.Nodes.{AreNodes}
 use Rattle.rdfc_ndegree.specs.NDegree.{AreArrangements}
-use Rattle.rdfc_ndegree.specs.Branches.{without, branches}
+use Rattle.rdfc_ndegree.proofs.Branches.{drop_one, branches}
 use Rattle.rdfc_ndegree.proofs.Basics.{Contains-filter, Contains-from_filter, Contains-flat_map, Contains-from_flat_map, AllDiffer-append}
 
 module _ {B : Type 0} (same : B → B → Bool) (equal : (x y : B) → (same x y ≡ true) ↔ (x ≡ y)) where
@@ -51,15 +52,15 @@ module _ {B : Type 0} (same : B → B → Bool) (equal : (x y : B) → (same x y
 
   -- ---- a list with one element taken out
 
-  pub without-permutation : (xs : List B) (x : B) → Contains xs x → IsPermutation xs (x ∷ without same x xs)
+  pub without-permutation : (xs : List B) (x : B) → Contains xs x → IsPermutation xs (x ∷ drop_one same x xs)
   without-permutation [] x m = absurd (Contains-nil x m)
   without-permutation (y ∷ ys) x m = go (same x y) refl (without-permutation ys x)
     where
-      go : (b : Bool) → same x y ≡ b → (Contains ys x → IsPermutation ys (x ∷ without same x ys)) → IsPermutation (y ∷ ys) (x ∷ cond b ys (y ∷ without same x ys))
+      go : (b : Bool) → same x y ≡ b → (Contains ys x → IsPermutation ys (x ∷ drop_one same x ys)) → IsPermutation (y ∷ ys) (x ∷ cond b ys (y ∷ drop_one same x ys))
       go true e h = subst (λ z. IsPermutation (y ∷ ys) (z ∷ ys)) (sym ((equal x y).0 e)) (IsPermutation-refl (y ∷ ys))
       go false e h =
           ⊎_elim (λ s. absurd (false≢true (sym e ∙ (equal x y).1 (sym s))))
-          (λ n. IsPermutation-trans (y ∷ ys) (y ∷ (x ∷ without same x ys)) (x ∷ (y ∷ without same x ys)) (IsPermutation-cons y ys (x ∷ without same x ys) (h n)) (IsPermutation-middle (y ∷ []) x (without same x ys)))
+          (λ n. IsPermutation-trans (y ∷ ys) (y ∷ (x ∷ drop_one same x ys)) (x ∷ (y ∷ drop_one same x ys)) (IsPermutation-cons y ys (x ∷ drop_one same x ys) (h n)) (IsPermutation-middle (y ∷ []) x (drop_one same x ys)))
           (Contains-cons_cases y ys x m)
 
   -- ---- counts
@@ -92,10 +93,10 @@ module _ {B : Type 0} (same : B → B → Bool) (equal : (x y : B) → (same x y
   from_times [] (y ∷ ys) h = absurd (Contains-nil y (times-some y [] (let a = h y in let b = times-head y ys in omega arith)))
   from_times (x ∷ xs) ys h =
       let found : Contains ys x = times-some x ys (let a = h x in let b = times-head x xs in omega arith) in
-      let moved : IsPermutation ys (x ∷ without same x ys) = without-permutation ys x found in
-      let rest : (z : B) → times z xs ≡ times z (without same x ys) = λ z.
-      let a = h z in let b = times-cons z x xs in let c = times-cons z x (without same x ys) in let d = times-permutation z ys (x ∷ without same x ys) moved in omega arith in
-      IsPermutation-trans (x ∷ xs) (x ∷ without same x ys) ys (IsPermutation-cons x xs (without same x ys) (from_times xs (without same x ys) rest)) (IsPermutation-sym ys (x ∷ without same x ys) moved)
+      let moved : IsPermutation ys (x ∷ drop_one same x ys) = without-permutation ys x found in
+      let rest : (z : B) → times z xs ≡ times z (drop_one same x ys) = λ z.
+      let a = h z in let b = times-cons z x xs in let c = times-cons z x (drop_one same x ys) in let d = times-permutation z ys (x ∷ drop_one same x ys) moved in omega arith in
+      IsPermutation-trans (x ∷ xs) (x ∷ drop_one same x ys) ys (IsPermutation-cons x xs (drop_one same x ys) (from_times xs (drop_one same x ys) rest)) (IsPermutation-sym ys (x ∷ drop_one same x ys) moved)
 
   pub IsPermutation-uncons : (x : B) (xs ys : List B) → IsPermutation (x ∷ xs) (x ∷ ys) → IsPermutation xs ys
   IsPermutation-uncons x xs ys p =
@@ -104,25 +105,25 @@ module _ {B : Type 0} (same : B → B → Bool) (equal : (x y : B) → (same x y
   -- ---- the sequences
 
   fronted : ℕ → List B → B → List (List B)
-  fronted n left m = map (λ p. m ∷ p) (branches same n (without same m left))
+  fronted n left m = map (λ p. m ∷ p) (branches same n (drop_one same m left))
 
   empty : {X : Type 0} (xs : List X) → length xs ≡ 0 → xs ≡ []
   empty [] e = refl
   empty (x ∷ xs) e = absurd (omega arith)
 
-  shorter : (n : ℕ) (left : List B) (m : B) → length left ≡ suc n → IsPermutation left (m ∷ without same m left) → length (without same m left) ≡ n
-  shorter n left m e p = let a : suc (length (without same m left)) ≡ length left = length_permutation left (m ∷ without same m left) p in omega arith
+  shorter : (n : ℕ) (left : List B) (m : B) → length left ≡ suc n → IsPermutation left (m ∷ drop_one same m left) → length (drop_one same m left) ≡ n
+  shorter n left m e p = let a : suc (length (drop_one same m left)) ≡ length left = length_permutation left (m ∷ drop_one same m left) p in omega arith
 
   pub branches-only : (n : ℕ) (left : List B) (p : List B) → length left ≡ n → Contains (branches same n left) p → IsPermutation left p
   branches-only zero left p e c =
       ⊎_elim (λ s. subst (λ l. IsPermutation l p) (sym (empty left e)) (subst (IsPermutation []) s (IsPermutation-refl []))) (λ k. absurd (Contains-nil p k)) (Contains-cons_cases [] [] p c)
   branches-only (suc n) left p e c =
-      let found = Contains-from_flat_map (λ m. map (λ q. m ∷ q) (branches same n (without same m left))) (each_once same left) p c in
+      let found = Contains-from_flat_map (λ m. map (λ q. m ∷ q) (branches same n (drop_one same m left))) (each_once same left) p c in
       let m : B = found.0 in
-      let tail = Contains-from_map (λ (q : List B). m ∷ q) (branches same n (without same m left)) p found.2 in
-      let moved : IsPermutation left (m ∷ without same m left) = without-permutation left m (each_once-from left m found.1) in
-      let rest : IsPermutation (without same m left) tail.0 = branches-only n (without same m left) tail.0 (shorter n left m e moved) tail.1 in
-      subst (IsPermutation left) tail.2 (IsPermutation-trans left (m ∷ without same m left) (m ∷ tail.0) moved (IsPermutation-cons m (without same m left) tail.0 rest))
+      let tail = Contains-from_map (λ (q : List B). m ∷ q) (branches same n (drop_one same m left)) p found.2 in
+      let moved : IsPermutation left (m ∷ drop_one same m left) = without-permutation left m (each_once-from left m found.1) in
+      let rest : IsPermutation (drop_one same m left) tail.0 = branches-only n (drop_one same m left) tail.0 (shorter n left m e moved) tail.1 in
+      subst (IsPermutation left) tail.2 (IsPermutation-trans left (m ∷ drop_one same m left) (m ∷ tail.0) moved (IsPermutation-cons m (drop_one same m left) tail.0 rest))
 
   pub branches-every : (n : ℕ) (left : List B) (p : List B) → length left ≡ n → IsPermutation left p → Contains (branches same n left) p
   branches-every zero left p e c =
@@ -130,10 +131,10 @@ module _ {B : Type 0} (same : B → B → Bool) (equal : (x y : B) → (same x y
   branches-every (suc n) left [] e c = let a : 0 ≡ length left = length_permutation left [] c in absurd (omega arith)
   branches-every (suc n) left (m ∷ p) e c =
       let inside : Contains left m = Contains-permutation (m ∷ p) left m (IsPermutation-sym left (m ∷ p) c) (Contains-here m p) in
-      let moved : IsPermutation left (m ∷ without same m left) = without-permutation left m inside in
-      let rest : IsPermutation (without same m left) p = IsPermutation-uncons m (without same m left) p (IsPermutation-trans (m ∷ without same m left) left (m ∷ p) (IsPermutation-sym left (m ∷ without same m left) moved) c) in
-      Contains-flat_map (λ k. map (λ q. k ∷ q) (branches same n (without same k left))) (each_once same left) m (m ∷ p) (each_once-has left m inside)
-      (Contains-map (λ (q : List B). m ∷ q) (branches same n (without same m left)) p (branches-every n (without same m left) p (shorter n left m e moved) rest))
+      let moved : IsPermutation left (m ∷ drop_one same m left) = without-permutation left m inside in
+      let rest : IsPermutation (drop_one same m left) p = IsPermutation-uncons m (drop_one same m left) p (IsPermutation-trans (m ∷ drop_one same m left) left (m ∷ p) (IsPermutation-sym left (m ∷ drop_one same m left) moved) c) in
+      Contains-flat_map (λ k. map (λ q. k ∷ q) (branches same n (drop_one same k left))) (each_once same left) m (m ∷ p) (each_once-has left m inside)
+      (Contains-map (λ (q : List B). m ∷ q) (branches same n (drop_one same m left)) p (branches-every n (drop_one same m left) p (shorter n left m e moved) rest))
 
   heads_same : (m k : B) (p q : List B) → m ∷ p ≡ k ∷ q → m ≡ k
   heads_same m k p q e = cc
@@ -156,7 +157,7 @@ module _ {B : Type 0} (same : B → B → Bool) (equal : (x y : B) → (same x y
 
   pub branches-differ : (n : ℕ) (left : List B) → AllDiffer (branches same n left)
   branches-differ zero left = AllDiffer-cons [] [] (λ m. Contains-nil [] m) AllDiffer-nil
-  branches-differ (suc n) left = differ_along (λ m. branches same n (without same m left)) (λ m. branches-differ n (without same m left)) (each_once same left) (each_once-differ left)
+  branches-differ (suc n) left = differ_along (λ m. branches same n (drop_one same m left)) (λ m. branches-differ n (drop_one same m left)) (each_once same left) (each_once-differ left)
 
 pub branches-are : {B : Type 0} {v : Nodes B} → AreNodes v → (members : List B) → AreArrangements members (branches v.same (length members) members)
 branches-are {B} {v} laws members = record {

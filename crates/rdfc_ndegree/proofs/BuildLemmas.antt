@@ -13,11 +13,12 @@ use Rattle.std.proofs.Math.ListN.{set}
 use Rattle.base_types.proofs.Lists.{Contains-nil, Contains-here, Contains-there, Contains-cons_cases}
 use Rattle.nquads.specs.declared.hashes.BlankHash.{BlankHash}
 use Rattle.rdfc_ndegree.specs.declared.building.Parts.{Parts}
-use Rattle.rdfc_ndegree.specs.declared.table.Place.{Place}
-use Rattle.rdfc_ndegree.specs.declared.table.Place.TheVariants as place
+use Rattle.rdfc_ndegree.specs.declared.table.Position.{Position}
+use Rattle.rdfc_ndegree.specs.declared.table.Position.TheVariants as position
 use Rattle.rdfc_ndegree.specs.declared.table.Related.{Related}
 use Rattle.rdfc_ndegree.specs.declared.table.NodeRow.{NodeRow}
-use Rattle.rdfc_ndegree.specs.Building.{number_among, names_of, new_row, with_row, with_rows, unknown, links_at, links, more, related_at, node_related, object_related, relate, related_all}
+use Rattle.rdfc_ndegree.specs.Table.{number_among, names_of}
+use Rattle.rdfc_ndegree.specs.Internal.Building.{new_row, with_row, with_rows, unused_name, related_nodes_at, related_nodes, with_related, relate_row, relate_node, relate_object, relate_parts, relate_all}
 
 -- ---- numbers of texts
 
@@ -89,36 +90,36 @@ with_rows-kept : (rows : List NodeRow) (hs : List BlankHash) (x : List ℕ) → 
 with_rows-kept rows [] x c = c
 with_rows-kept rows (h ∷ hs) x c = with_rows-kept (with_row rows h) hs x (with_row-kept rows h x c)
 
-pub others-named : (rows : List NodeRow) (others : List (List ℕ)) → AllByRecursion (Contains (names_of (with_rows rows (map unknown others)))) others
+pub others-named : (rows : List NodeRow) (others : List (List ℕ)) → AllByRecursion (Contains (names_of (with_rows rows (map unused_name others)))) others
 others-named rows [] = tt
 others-named rows (other ∷ others) =
-    let row = unknown other in
-    (with_rows-kept (with_row rows row) (map unknown others) other (with_row-named rows row), others-named (with_row rows row) others)
+    let row = unused_name other in
+    (with_rows-kept (with_row rows row) (map unused_name others) other (with_row-named rows row), others-named (with_row rows row) others)
 
 -- ---- related nodes of one row
 
-more-nothing : (row : NodeRow) → more row [] ≡ row
+more-nothing : (row : NodeRow) → with_related row [] ≡ row
 more-nothing row = let e = append-nil row.related in λ i. record { blank = row.blank; first = row.first; related = e i }
 
-more-more : (row : NodeRow) (rs ss : List Related) → more (more row rs) ss ≡ more row (rs ++ ss)
+more-more : (row : NodeRow) (rs ss : List Related) → with_related (with_related row rs) ss ≡ with_related row (rs ++ ss)
 more-more row rs ss = let e = append_assoc row.related rs ss in λ i. record { blank = row.blank; first = row.first; related = e i }
 
-pub related_at-nothing : (rows : List NodeRow) (n : ℕ) → related_at rows n [] ≡ rows
+pub related_at-nothing : (rows : List NodeRow) (n : ℕ) → relate_row rows n [] ≡ rows
 related_at-nothing [] n = refl
 related_at-nothing (row ∷ rows) zero = ap (λ r. r ∷ rows) (more-nothing row)
 related_at-nothing (row ∷ rows) (suc n) = ap (λ rs. row ∷ rs) (related_at-nothing rows n)
 
-pub related_at-related_at : (rows : List NodeRow) (n : ℕ) (rs ss : List Related) → related_at (related_at rows n rs) n ss ≡ related_at rows n (rs ++ ss)
+pub related_at-related_at : (rows : List NodeRow) (n : ℕ) (rs ss : List Related) → relate_row (relate_row rows n rs) n ss ≡ relate_row rows n (rs ++ ss)
 related_at-related_at [] n rs ss = refl
 related_at-related_at (row ∷ rows) zero rs ss = ap (λ r. r ∷ rows) (more-more row rs ss)
 related_at-related_at (row ∷ rows) (suc n) rs ss = ap (λ rs. row ∷ rs) (related_at-related_at rows n rs ss)
 
-pub related_at-past : (rows : List NodeRow) (n : ℕ) (rs : List Related) → length rows ≤ n → related_at rows n rs ≡ rows
+pub related_at-past : (rows : List NodeRow) (n : ℕ) (rs : List Related) → length rows ≤ n → relate_row rows n rs ≡ rows
 related_at-past [] n rs le = refl
 related_at-past (row ∷ rows) zero rs le = absurd (omega arith)
 related_at-past (row ∷ rows) (suc n) rs le = ap (λ rs. row ∷ rs) (related_at-past rows n rs (omega arith))
 
-pub names-related_at : (rows : List NodeRow) (n : ℕ) (rs : List Related) → names_of (related_at rows n rs) ≡ names_of rows
+pub names-related_at : (rows : List NodeRow) (n : ℕ) (rs : List Related) → names_of (relate_row rows n rs) ≡ names_of rows
 names-related_at [] n rs = refl
 names-related_at (row ∷ rows) zero rs = refl
 names-related_at (row ∷ rows) (suc n) rs = ap (λ ns. row.blank ∷ ns) (names-related_at rows n rs)
@@ -134,54 +135,54 @@ unfoldable pub stands : ℕ → Parts → Bool
 stands k p = (is_at k p.subject || is_at k p.object) || is_at k p.graph
 
 abbrev pub given : ℕ → Parts → List Related
-given k p = cond (stands k p) (links k p) []
+given k p = cond (stands k p) (related_nodes k p) []
 
 -- the k-th row of `new` is that of `old` with these related nodes more
 abbrev Gets : List NodeRow → List NodeRow → ℕ → List Related → Type 0
-Gets old new k rs = slice_get new k ≡ option_map (λ (r : NodeRow). more r rs) (slice_get old k)
+Gets old new k rs = slice_get new k ≡ option_map (λ (r : NodeRow). with_related r rs) (slice_get old k)
 
 gets-nothing : (rows : List NodeRow) (k : ℕ) → Gets rows rows k []
 gets-nothing rows k = go (slice_get rows k)
   where
-    go : (o : Option NodeRow) → o ≡ option_map (λ (r : NodeRow). more r []) o
+    go : (o : Option NodeRow) → o ≡ option_map (λ (r : NodeRow). with_related r []) o
     go None = refl
     go (Some r) = ap Some (sym (more-nothing r))
 
 gets-more : (a b c : List NodeRow) (k : ℕ) (rs ss : List Related) → Gets a b k rs → Gets b c k ss → Gets a c k (rs ++ ss)
-gets-more a b c k rs ss first second = second ∙ ap (option_map (λ (r : NodeRow). more r ss)) first ∙ go (slice_get a k)
+gets-more a b c k rs ss first second = second ∙ ap (option_map (λ (r : NodeRow). with_related r ss)) first ∙ go (slice_get a k)
   where
-    go : (o : Option NodeRow) → option_map (λ (r : NodeRow). more r ss) (option_map (λ (r : NodeRow). more r rs) o) ≡ option_map (λ (r : NodeRow). more r (rs ++ ss)) o
+    go : (o : Option NodeRow) → option_map (λ (r : NodeRow). with_related r ss) (option_map (λ (r : NodeRow). with_related r rs) o) ≡ option_map (λ (r : NodeRow). with_related r (rs ++ ss)) o
     go None = refl
     go (Some r) = ap Some (more-more r rs ss)
 
-gets-same : (rows : List NodeRow) (k : ℕ) (rs : List Related) → Gets rows (related_at rows k rs) k rs
+gets-same : (rows : List NodeRow) (k : ℕ) (rs : List Related) → Gets rows (relate_row rows k rs) k rs
 gets-same [] k rs = refl
 gets-same (row ∷ rows) zero rs = refl
 gets-same (row ∷ rows) (suc k) rs = gets-same rows k rs
 
-gets-other : (rows : List NodeRow) (n k : ℕ) (rs : List Related) → (n ≡ k → ⊥) → Gets rows (related_at rows n rs) k []
+gets-other : (rows : List NodeRow) (n k : ℕ) (rs : List Related) → (n ≡ k → ⊥) → Gets rows (relate_row rows n rs) k []
 gets-other [] n k rs other = refl
 gets-other (row ∷ rows) zero zero rs other = absurd (other refl)
 gets-other (row ∷ rows) zero (suc k) rs other = gets-nothing rows k
 gets-other (row ∷ rows) (suc n) zero rs other = gets-nothing (row ∷ []) 0
 gets-other (row ∷ rows) (suc n) (suc k) rs other = gets-other rows n k rs (λ e. other (ap suc e))
 
-gets-related_at : (rows : List NodeRow) (n k : ℕ) (rs : List Related) → Gets rows (related_at rows n rs) k (cond (n == k) rs [])
+gets-related_at : (rows : List NodeRow) (n k : ℕ) (rs : List Related) → Gets rows (relate_row rows n rs) k (cond (n == k) rs [])
 gets-related_at rows n k rs = go (n == k) refl
   where
-    go : (t : Bool) → (n == k) ≡ t → Gets rows (related_at rows n rs) k (cond t rs [])
-    go true e = subst (λ m. Gets rows (related_at rows m rs) k rs) (sym ((Decides-eqb n k).0 e)) (gets-same rows k rs)
+    go : (t : Bool) → (n == k) ≡ t → Gets rows (relate_row rows n rs) k (cond t rs [])
+    go true e = subst (λ m. Gets rows (relate_row rows m rs) k rs) (sym ((Decides-eqb n k).0 e)) (gets-same rows k rs)
     go false e = gets-other rows n k rs (λ f. false≢true (sym e ∙ (Decides-eqb n k).1 f))
 
-links_if : (n k : ℕ) (p : Parts) (t : Bool) → (n == k) ≡ t → cond t (links n p) [] ≡ cond t (links k p) []
-links_if n k p true e = ap (λ j. links j p) ((Decides-eqb n k).0 e)
+links_if : (n k : ℕ) (p : Parts) (t : Bool) → (n == k) ≡ t → cond t (related_nodes n p) [] ≡ cond t (related_nodes k p) []
+links_if n k p true e = ap (λ j. related_nodes j p) ((Decides-eqb n k).0 e)
 links_if n k p false e = refl
 
-gets-node : (rows : List NodeRow) (o : Option ℕ) (p : Parts) (k : ℕ) → Gets rows (node_related rows o p) k (cond (is_at k o) (links k p) [])
+gets-node : (rows : List NodeRow) (o : Option ℕ) (p : Parts) (k : ℕ) → Gets rows (relate_node rows o p) k (cond (is_at k o) (related_nodes k p) [])
 gets-node rows None p k = gets-nothing rows k
-gets-node rows (Some n) p k = subst (Gets rows (related_at rows n (links n p)) k) (links_if n k p (n == k) refl) (gets-related_at rows n k (links n p))
+gets-node rows (Some n) p k = subst (Gets rows (relate_row rows n (related_nodes n p)) k) (links_if n k p (n == k) refl) (gets-related_at rows n k (related_nodes n p))
 
-gets-if : (t : Bool) (rows : List NodeRow) (o : Option ℕ) (p : Parts) (k : ℕ) → Gets rows (cond t rows (node_related rows o p)) k (cond t [] (cond (is_at k o) (links k p) []))
+gets-if : (t : Bool) (rows : List NodeRow) (o : Option ℕ) (p : Parts) (k : ℕ) → Gets rows (cond t rows (relate_node rows o p)) k (cond t [] (cond (is_at k o) (related_nodes k p) []))
 gets-if true rows o p k = gets-nothing rows k
 gets-if false rows o p k = gets-node rows o p k
 
@@ -226,76 +227,76 @@ or_apart k a b g e f = go (is_at k a) refl e
     go true h e = absurd (false≢true (sym e))
     go false h e = λ i. apart_both k a g h f i || apart_both k b g e f i
 
-gets-relate : (rows : List NodeRow) (p : Parts) (k : ℕ) → Gets rows (relate rows p) k (given k p)
+gets-relate : (rows : List NodeRow) (p : Parts) (k : ℕ) → Gets rows (relate_parts rows p) k (given k p)
 unfolding stands
 gets-relate rows p k =
-    let one = node_related rows p.subject p in
-    let two = object_related one p in
+    let one = relate_node rows p.subject p in
+    let two = relate_object one p in
     let a = gets-node rows p.subject p k in
     let b = gets-if (option_eq ◌==◌ p.subject p.object) one p.object p k in
     let c = gets-if (option_eq ◌==◌ p.subject p.graph || option_eq ◌==◌ p.object p.graph) two p.graph p k in
-    let first = pick (links k p) (is_at k p.subject) (is_at k p.object) (option_eq ◌==◌ p.subject p.object) (same_both k p.subject p.object) (apart_both k p.subject p.object) in
-    let second = pick (links k p) (is_at k p.subject || is_at k p.object) (is_at k p.graph) (option_eq ◌==◌ p.subject p.graph || option_eq ◌==◌ p.object p.graph) (or_same k p.subject p.object p.graph) (or_apart k p.subject p.object p.graph) in
-    let d : Gets rows two k (cond (is_at k p.subject || is_at k p.object) (links k p) []) = subst (Gets rows two k) first (gets-more rows one two k _ _ a b) in
-    subst (Gets rows (relate rows p) k) second (gets-more rows two (relate rows p) k _ _ d c)
+    let first = pick (related_nodes k p) (is_at k p.subject) (is_at k p.object) (option_eq ◌==◌ p.subject p.object) (same_both k p.subject p.object) (apart_both k p.subject p.object) in
+    let second = pick (related_nodes k p) (is_at k p.subject || is_at k p.object) (is_at k p.graph) (option_eq ◌==◌ p.subject p.graph || option_eq ◌==◌ p.object p.graph) (or_same k p.subject p.object p.graph) (or_apart k p.subject p.object p.graph) in
+    let d : Gets rows two k (cond (is_at k p.subject || is_at k p.object) (related_nodes k p) []) = subst (Gets rows two k) first (gets-more rows one two k _ _ a b) in
+    subst (Gets rows (relate_parts rows p) k) second (gets-more rows two (relate_parts rows p) k _ _ d c)
 
-pub gets-all : (rows : List NodeRow) (ps : List Parts) (k : ℕ) → slice_get (related_all rows ps) k ≡ option_map (λ (r : NodeRow). more r (flat_map (given k) ps)) (slice_get rows k)
+pub gets-all : (rows : List NodeRow) (ps : List Parts) (k : ℕ) → slice_get (relate_all rows ps) k ≡ option_map (λ (r : NodeRow). with_related r (flat_map (given k) ps)) (slice_get rows k)
 gets-all rows [] k = gets-nothing rows k
-gets-all rows (p ∷ ps) k = gets-more rows (relate rows p) (related_all (relate rows p) ps) k (given k p) (flat_map (given k) ps) (gets-relate rows p k) (gets-all (relate rows p) ps k)
+gets-all rows (p ∷ ps) k = gets-more rows (relate_parts rows p) (relate_all (relate_parts rows p) ps) k (given k p) (flat_map (given k) ps) (gets-relate rows p k) (gets-all (relate_parts rows p) ps k)
 
 -- ---- names stay, and related nodes are rows
 
-names-node : (rows : List NodeRow) (o : Option ℕ) (p : Parts) → names_of (node_related rows o p) ≡ names_of rows
+names-node : (rows : List NodeRow) (o : Option ℕ) (p : Parts) → names_of (relate_node rows o p) ≡ names_of rows
 names-node rows None p = refl
-names-node rows (Some n) p = names-related_at rows n (links n p)
+names-node rows (Some n) p = names-related_at rows n (related_nodes n p)
 
-names-if : (t : Bool) (rows : List NodeRow) (o : Option ℕ) (p : Parts) → names_of (cond t rows (node_related rows o p)) ≡ names_of rows
+names-if : (t : Bool) (rows : List NodeRow) (o : Option ℕ) (p : Parts) → names_of (cond t rows (relate_node rows o p)) ≡ names_of rows
 names-if true rows o p = refl
 names-if false rows o p = names-node rows o p
 
-pub names-all : (rows : List NodeRow) (ps : List Parts) → names_of (related_all rows ps) ≡ names_of rows
+pub names-all : (rows : List NodeRow) (ps : List Parts) → names_of (relate_all rows ps) ≡ names_of rows
 names-all rows [] = refl
 names-all rows (p ∷ ps) =
-    let one = node_related rows p.subject p in
-    let two = object_related one p in
-    names-all (relate rows p) ps
+    let one = relate_node rows p.subject p in
+    let two = relate_object one p in
+    names-all (relate_parts rows p) ps
     ∙ names-if (option_eq ◌==◌ p.subject p.graph || option_eq ◌==◌ p.object p.graph) two p.graph p
     ∙ names-if (option_eq ◌==◌ p.subject p.object) one p.object p
     ∙ names-node rows p.subject p
 
 -- ---- one node pushed to the row of another
 
-pub push-None : (rows : List NodeRow) (n : ℕ) (place : Place) (predicate : List ℕ) (o : Option ℕ) → o ≡ None → rows ≡ related_at rows n (links_at n place predicate o)
-push-None rows n place predicate o e = sym (ap (λ o. related_at rows n (links_at n place predicate o)) e ∙ related_at-nothing rows n)
+pub push-None : (rows : List NodeRow) (n : ℕ) (position : Position) (predicate : List ℕ) (o : Option ℕ) → o ≡ None → rows ≡ relate_row rows n (related_nodes_at n position predicate o)
+push-None rows n position predicate o e = sym (ap (λ o. relate_row rows n (related_nodes_at n position predicate o)) e ∙ related_at-nothing rows n)
 
-pub push-same : (rows : List NodeRow) (n m : ℕ) (place : Place) (predicate : List ℕ) (o : Option ℕ) → o ≡ Some m → m ≡ n → rows ≡ related_at rows n (links_at n place predicate o)
-push-same rows n m place predicate o e same =
+pub push-same : (rows : List NodeRow) (n m : ℕ) (position : Position) (predicate : List ℕ) (o : Option ℕ) → o ≡ Some m → m ≡ n → rows ≡ relate_row rows n (related_nodes_at n position predicate o)
+push-same rows n m position predicate o e same =
     let t : (m == n) ≡ true = (Decides-eqb m n).1 same in
-    sym (ap (λ o. related_at rows n (links_at n place predicate o)) e ∙ ap (λ b. related_at rows n (cond b [] (record { place = place; predicate = predicate; node = m } ∷ []))) t ∙ related_at-nothing rows n)
+    sym (ap (λ o. relate_row rows n (related_nodes_at n position predicate o)) e ∙ ap (λ b. relate_row rows n (cond b [] (record { position = position; predicate = predicate; node = m } ∷ []))) t ∙ related_at-nothing rows n)
 
-related_at-set : (rows : List NodeRow) (n : ℕ) (row : NodeRow) (rs : List Related) → n < length rows → row ≡ get_or rows n row → set rows n (more row rs) ≡ related_at rows n rs
+related_at-set : (rows : List NodeRow) (n : ℕ) (row : NodeRow) (rs : List Related) → n < length rows → row ≡ get_or rows n row → set rows n (with_related row rs) ≡ relate_row rows n rs
 related_at-set [] n row rs within e = absurd (omega arith)
-related_at-set (r ∷ rows) zero row rs within e = ap (λ z. more z rs ∷ rows) e
+related_at-set (r ∷ rows) zero row rs within e = ap (λ z. with_related z rs ∷ rows) e
 related_at-set (r ∷ rows) (suc n) row rs within e = ap (λ ls. r ∷ ls) (related_at-set rows n row rs (omega arith) e)
 
-pub push-other : (rows : List NodeRow) (n m : ℕ) (place : Place) (predicate : List ℕ) (o : Option ℕ) (row : NodeRow) (pushed : List Related) (new : List NodeRow) → o ≡ Some m → (m ≡ n → ⊥) → n < length rows → row ≡ get_or rows n row → pushed ≡ row.related ++ record { place = place; predicate = predicate; node = m } ∷ [] → new ≡ set rows n record { blank = row.blank; first = row.first; related = pushed } → new ≡ related_at rows n (links_at n place predicate o)
-push-other rows n m place predicate o row pushed new e other within at is made =
+pub push-other : (rows : List NodeRow) (n m : ℕ) (position : Position) (predicate : List ℕ) (o : Option ℕ) (row : NodeRow) (pushed : List Related) (new : List NodeRow) → o ≡ Some m → (m ≡ n → ⊥) → n < length rows → row ≡ get_or rows n row → pushed ≡ row.related ++ record { position = position; predicate = predicate; node = m } ∷ [] → new ≡ set rows n record { blank = row.blank; first = row.first; related = pushed } → new ≡ relate_row rows n (related_nodes_at n position predicate o)
+push-other rows n m position predicate o row pushed new e other within at is made =
     let t : (m == n) ≡ false = apart (m == n) refl in
     made ∙ (λ i. set rows n record { blank = row.blank; first = row.first; related = is i })
-    ∙ related_at-set rows n row (record { place = place; predicate = predicate; node = m } ∷ []) within at
-    ∙ sym (ap (λ o. related_at rows n (links_at n place predicate o)) e ∙ ap (λ b. related_at rows n (cond b [] (record { place = place; predicate = predicate; node = m } ∷ []))) t)
+    ∙ related_at-set rows n row (record { position = position; predicate = predicate; node = m } ∷ []) within at
+    ∙ sym (ap (λ o. relate_row rows n (related_nodes_at n position predicate o)) e ∙ ap (λ b. relate_row rows n (cond b [] (record { position = position; predicate = predicate; node = m } ∷ []))) t)
   where
     apart : (b : Bool) → (m == n) ≡ b → b ≡ false
     apart true f = absurd (other ((Decides-eqb m n).0 f))
     apart false f = refl
 
-pub push-three : (rows one two three : List NodeRow) (n : ℕ) (o : Option ℕ) (p : Parts) → o ≡ Some n → one ≡ related_at rows n (links_at n place.Subject p.predicate p.subject) → two ≡ related_at one n (links_at n place.Object p.predicate p.object) → three ≡ related_at two n (links_at n place.Graph p.predicate p.graph) → three ≡ node_related rows o p
+pub push-three : (rows one two three : List NodeRow) (n : ℕ) (o : Option ℕ) (p : Parts) → o ≡ Some n → one ≡ relate_row rows n (related_nodes_at n position.Subject p.predicate p.subject) → two ≡ relate_row one n (related_nodes_at n position.Object p.predicate p.object) → three ≡ relate_row two n (related_nodes_at n position.Graph p.predicate p.graph) → three ≡ relate_node rows o p
 push-three rows one two three n o p e a b c =
-    let s = links_at n place.Subject p.predicate p.subject in
-    let t = links_at n place.Object p.predicate p.object in
-    let u = links_at n place.Graph p.predicate p.graph in
-    c ∙ ap (λ rs. related_at rs n u) (b ∙ ap (λ rs. related_at rs n t) a)
-    ∙ ap (λ rs. related_at rs n u) (related_at-related_at rows n s t)
+    let s = related_nodes_at n position.Subject p.predicate p.subject in
+    let t = related_nodes_at n position.Object p.predicate p.object in
+    let u = related_nodes_at n position.Graph p.predicate p.graph in
+    c ∙ ap (λ rs. relate_row rs n u) (b ∙ ap (λ rs. relate_row rs n t) a)
+    ∙ ap (λ rs. relate_row rs n u) (related_at-related_at rows n s t)
     ∙ related_at-related_at rows n (s ++ t) u
-    ∙ ap (related_at rows n) (append_assoc s t u)
-    ∙ sym (ap (λ o. node_related rows o p) e)
+    ∙ ap (relate_row rows n) (append_assoc s t u)
+    ∙ sym (ap (λ o. relate_node rows o p) e)

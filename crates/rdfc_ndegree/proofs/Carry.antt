@@ -11,9 +11,8 @@ use Rattle.base_types.proofs.Rising.{rising-free}
 use Rattle.nquads.proofs.ReadingElements.{AllDiffer-map}
 use Rattle.rdfc_ndegree.specs.Nodes.{Occurrence, Nodes}
 use Rattle.rdfc_ndegree.specs.Issuers.{has, number, canonical_id, temporary_id, issue}
-use Rattle.rdfc_ndegree.specs.Groups.{place_text, known_as, related_hash, Hashed, Group, group_of, grouped, hashed_related, related_groups}
-use Rattle.rdfc_ndegree.specs.NDegree.{Outcome, Trail, Choice, Calls, named, identifier, named_all, first_path, newly_named, entry, Nested, Evaluates, AreArrangements, counts, meets_tie, total_work, greatest_depth, chosen, IsChoice, outcome_end, InGroups, IsCall, IsNDegreeWithin, IsNDegree}
-use Rattle.rdfc_ndegree.specs.Answers.{AnswersCall, CallOver, CallDeep}
+use Rattle.rdfc_ndegree.specs.Groups.{position_text, identifier_or_hash, related_hash, NodeHash, Group, group_of, groups_by_hash, with_related_hash, related_groups}
+use Rattle.rdfc_ndegree.specs.NDegree.{Outcome, Trail, Choice, Calls, issue_temporary, identifier, issuer_copy, first_path, recursion_list, path_part, Nested, Evaluates, AreArrangements, counts, meets_tie, total_work, greatest_depth, choice_of, IsChoice, outcome_end, InGroups, IsCall, IsNDegreeWithin, IsNDegree}
 use Rattle.rdfc_ndegree.proofs.CarryBasics.{SameElements-permutation, IsPermutation-filter, Each-permutation, Each-append, Each-filter, Each-map, Each-from_contains, map-map, map-agree, list_any-map, list_any-map_each, filter-map_each, sum_by-map, pull_back, map-injective}
 
 -- ---- what is carried
@@ -21,7 +20,7 @@ use Rattle.rdfc_ndegree.proofs.CarryBasics.{SameElements-permutation, IsPermutat
 abbrev pub carried : {A B : Type 0} → (A → B) → Occurrence A → Occurrence B
 carried f o = record { position = o.position; predicate = o.predicate; blank = f o.blank }
 
-abbrev pub hashed_f : {A B : Type 0} → (A → B) → Hashed A → Hashed B
+abbrev pub hashed_f : {A B : Type 0} → (A → B) → NodeHash A → NodeHash B
 hashed_f f h = record { hash = h.hash; node = f h.node }
 
 abbrev pub outcome_f : {A B : Type 0} → (A → B) → Outcome A → Outcome B
@@ -56,35 +55,35 @@ pub record Arrives {A : Type 0} (Dom : A → Type 0) (issuer : List A) (there : 
 -- ---- groups
 
 module _ {A B : Type 0} (f : A → B) (Dom : A → Type 0) where
-  group_members : (r : List ℕ) (hs : List (Hashed A)) (ks : List (Hashed B)) → IsPermutation (map (hashed_f f) hs) ks → IsPermutation (map f (group_of hs r).members) (group_of ks r).members
+  group_members : (r : List ℕ) (hs : List (NodeHash A)) (ks : List (NodeHash B)) → IsPermutation (map (hashed_f f) hs) ks → IsPermutation (map f (group_of hs r).members) (group_of ks r).members
   group_members r hs ks p =
-      let passed : List (Hashed A) = filter (λ h. bytes_eq h.hash r) hs in
+      let passed : List (NodeHash A) = filter (λ h. bytes_eq h.hash r) hs in
       let kept : IsPermutation (filter (λ h. bytes_eq h.hash r) (map (hashed_f f) hs)) (filter (λ h. bytes_eq h.hash r) ks) = IsPermutation-filter (λ h. bytes_eq h.hash r) (map (hashed_f f) hs) ks p in
       let moved : IsPermutation (map (hashed_f f) passed) (filter (λ h. bytes_eq h.hash r) ks) = subst (λ l. IsPermutation l (filter (λ h. bytes_eq h.hash r) ks)) (filter-map_each (hashed_f f) (λ h. bytes_eq h.hash r) hs) kept in
       let nodes : IsPermutation (map (λ h. h.node) (map (hashed_f f) passed)) (map (λ h. h.node) (filter (λ h. bytes_eq h.hash r) ks)) = IsPermutation-map (λ h. h.node) (map (hashed_f f) passed) (filter (λ h. bytes_eq h.hash r) ks) moved in
-      let turned : map (λ h. h.node) (map (hashed_f f) passed) ≡ map f (map (λ h. h.node) passed) = map-map (λ (h : Hashed B). h.node) (hashed_f f) passed ∙ sym (map-map f (λ (h : Hashed A). h.node) passed) in
+      let turned : map (λ h. h.node) (map (hashed_f f) passed) ≡ map f (map (λ h. h.node) passed) = map-map (λ (h : NodeHash B). h.node) (hashed_f f) passed ∙ sym (map-map f (λ (h : NodeHash A). h.node) passed) in
       subst (λ l. IsPermutation l (map (λ h. h.node) (filter (λ h. bytes_eq h.hash r) ks))) turned nodes
 
-  one_group : (r : List ℕ) (hs : List (Hashed A)) (ks : List (Hashed B)) → AllByRecursion (λ (h : Hashed A). Dom h.node) hs → IsPermutation (map (hashed_f f) hs) ks → SameGroup f Dom (group_of hs r) (group_of ks r)
+  one_group : (r : List ℕ) (hs : List (NodeHash A)) (ks : List (NodeHash B)) → AllByRecursion (λ (h : NodeHash A). Dom h.node) hs → IsPermutation (map (hashed_f f) hs) ks → SameGroup f Dom (group_of hs r) (group_of ks r)
   one_group r hs ks d p = record {
     hash = refl;
-    inside = Each-map Dom (λ (h : Hashed A). h.node) (filter (λ h. bytes_eq h.hash r) hs) (Each-filter (λ (h : Hashed A). Dom h.node) (λ h. bytes_eq h.hash r) hs d);
+    inside = Each-map Dom (λ (h : NodeHash A). h.node) (filter (λ h. bytes_eq h.hash r) hs) (Each-filter (λ (h : NodeHash A). Dom h.node) (λ h. bytes_eq h.hash r) hs d);
     members = group_members r hs ks p;
   }
 
-  each_group : (rs : List (List ℕ)) (hs : List (Hashed A)) (ks : List (Hashed B)) → AllByRecursion (λ (h : Hashed A). Dom h.node) hs → IsPermutation (map (hashed_f f) hs) ks → AllZip (SameGroup f Dom) (map (group_of hs) rs) (map (group_of ks) rs)
+  each_group : (rs : List (List ℕ)) (hs : List (NodeHash A)) (ks : List (NodeHash B)) → AllByRecursion (λ (h : NodeHash A). Dom h.node) hs → IsPermutation (map (hashed_f f) hs) ks → AllZip (SameGroup f Dom) (map (group_of hs) rs) (map (group_of ks) rs)
   each_group [] hs ks d p = tt
   each_group (r ∷ rs) hs ks d p = (one_group r hs ks d p, each_group rs hs ks d p)
 
-  same_hashes : (hs : List (Hashed A)) (ks : List (Hashed B)) → IsPermutation (map (hashed_f f) hs) ks → sorted_set (map (λ h. h.hash) ks) ≡ sorted_set (map (λ h. h.hash) hs)
+  same_hashes : (hs : List (NodeHash A)) (ks : List (NodeHash B)) → IsPermutation (map (hashed_f f) hs) ks → sorted_set (map (λ h. h.hash) ks) ≡ sorted_set (map (λ h. h.hash) hs)
   same_hashes hs ks p =
       let moved : IsPermutation (map (λ h. h.hash) hs) (map (λ h. h.hash) ks) =
-      subst (λ l. IsPermutation l (map (λ h. h.hash) ks)) (map-map (λ (h : Hashed B). h.hash) (hashed_f f) hs) (IsPermutation-map (λ h. h.hash) (map (hashed_f f) hs) ks p) in
+      subst (λ l. IsPermutation l (map (λ h. h.hash) ks)) (map-map (λ (h : NodeHash B). h.hash) (hashed_f f) hs) (IsPermutation-map (λ h. h.hash) (map (hashed_f f) hs) ks p) in
       rising-free (map (λ h. h.hash) ks) (map (λ h. h.hash) hs) (SameElements-permutation (map (λ h. h.hash) ks) (map (λ h. h.hash) hs) (IsPermutation-sym (map (λ h. h.hash) hs) (map (λ h. h.hash) ks) moved))
 
-  pub grouped-carried : (hs : List (Hashed A)) (ks : List (Hashed B)) → AllByRecursion (λ (h : Hashed A). Dom h.node) hs → IsPermutation (map (hashed_f f) hs) ks → AllZip (SameGroup f Dom) (grouped hs) (grouped ks)
+  pub grouped-carried : (hs : List (NodeHash A)) (ks : List (NodeHash B)) → AllByRecursion (λ (h : NodeHash A). Dom h.node) hs → IsPermutation (map (hashed_f f) hs) ks → AllZip (SameGroup f Dom) (groups_by_hash hs) (groups_by_hash ks)
   grouped-carried hs ks d p =
-      subst (λ rs. AllZip (SameGroup f Dom) (grouped hs) (map (group_of ks) rs)) (sym (same_hashes hs ks p)) (each_group (sorted_set (map (λ h. h.hash) hs)) hs ks d p)
+      subst (λ rs. AllZip (SameGroup f Dom) (groups_by_hash hs) (map (group_of ks) rs)) (sym (same_hashes hs ks p)) (each_group (sorted_set (map (λ h. h.hash) hs)) hs ks d p)
 
 -- ---- what a choice keeps
 
@@ -102,7 +101,7 @@ module _ {A B : Type 0} (f : A → B) where
   depth_kept [] = refl
   depth_kept (t ∷ ts) = ap (λ n. max t.depth n) (depth_kept ts)
 
-  chosen_kept : (best : Trail A) (ts : List (Trail A)) → choice_f f (chosen best ts) ≡ chosen (trail_f f best) (map (trail_f f) ts)
+  chosen_kept : (best : Trail A) (ts : List (Trail A)) → choice_f f (choice_of best ts) ≡ choice_of (trail_f f best) (map (trail_f f) ts)
   chosen_kept best ts =
       let tie = ties_kept best.path ts in
       let work = work_kept ts in
@@ -142,7 +141,7 @@ module _ {A B : Type 0} (f : A → B) (Dom : A → Type 0) (v : Nodes A) (w : No
   pub issue-inside : (i : List A) (n : A) → AllByRecursion Dom i → Dom n → AllByRecursion Dom (issue v i n)
   issue-inside i n h d = either_inside (has v i n) i (i ++ n ∷ []) h (Each-append Dom i (n ∷ []) h (d, tt))
 
-  known_as-carried : (c i : List A) (n : A) → AllByRecursion Dom c → AllByRecursion Dom i → Dom n → known_as w (map f c) (map f i) (f n) ≡ known_as v c i n
+  known_as-carried : (c i : List A) (n : A) → AllByRecursion Dom c → AllByRecursion Dom i → Dom n → identifier_or_hash w (map f c) (map f i) (f n) ≡ identifier_or_hash v c i n
   known_as-carried c i n hc hi d =
       ap (λ b. if b then 95 ∷ 58 ∷ canonical_id w (map f c) (f n) else (if has w (map f i) (f n) then 95 ∷ 58 ∷ temporary_id w (map f i) (f n) else w.first (f n))) (has-carried c n hc d)
       ∙ ap (λ t. if has v c n then 95 ∷ 58 ∷ t else (if has w (map f i) (f n) then 95 ∷ 58 ∷ temporary_id w (map f i) (f n) else w.first (f n))) (canonical_id-carried c n hc d)
@@ -152,35 +151,35 @@ module _ {A B : Type 0} (f : A → B) (Dom : A → Type 0) (v : Nodes A) (w : No
 
   related_hash-carried : (c i : List A) (o : Occurrence A) → AllByRecursion Dom c → AllByRecursion Dom i → Dom o.blank → related_hash w (map f c) (map f i) (carried f o) ≡ related_hash v c i o
   related_hash-carried c i o hc hi d =
-      ap (λ t. w.digest (place_text o.position o.predicate ++ t)) (known_as-carried c i o.blank hc hi d) ∙ s.digest (place_text o.position o.predicate ++ known_as v c i o.blank)
+      ap (λ t. w.digest (position_text o.position o.predicate ++ t)) (known_as-carried c i o.blank hc hi d) ∙ s.digest (position_text o.position o.predicate ++ identifier_or_hash v c i o.blank)
 
-  hashed-carried : (c i : List A) (o : Occurrence A) → AllByRecursion Dom c → AllByRecursion Dom i → Dom o.blank → hashed_related w (map f c) (map f i) (carried f o) ≡ hashed_f f (hashed_related v c i o)
+  hashed-carried : (c i : List A) (o : Occurrence A) → AllByRecursion Dom c → AllByRecursion Dom i → Dom o.blank → with_related_hash w (map f c) (map f i) (carried f o) ≡ hashed_f f (with_related_hash v c i o)
   hashed-carried c i o hc hi d = ap (λ (t : List ℕ). hashed_with t) (related_hash-carried c i o hc hi d)
     where
-      hashed_with : List ℕ → Hashed B
+      hashed_with : List ℕ → NodeHash B
       hashed_with t = record { hash = t; node = f o.blank }
 
   pub related_groups-carried : (c i : List A) (n : A) → AllByRecursion Dom c → AllByRecursion Dom i → Dom n → AllZip (SameGroup f Dom) (related_groups v c i n) (related_groups w (map f c) (map f i) (f n))
   related_groups-carried c i n hc hi d =
       let inside : AllByRecursion (λ (o : Occurrence A). Dom o.blank) (v.related n) = recursion_from_All (λ (o : Occurrence A). Dom o.blank) (v.related n) (s.closed n d) in
-      let moved : IsPermutation (map (hashed_related w (map f c) (map f i)) (map (carried f) (v.related n))) (map (hashed_related w (map f c) (map f i)) (w.related (f n))) = IsPermutation-map (hashed_related w (map f c) (map f i)) (map (carried f) (v.related n)) (w.related (f n)) (s.related n d) in
-      let turned : map (hashed_related w (map f c) (map f i)) (map (carried f) (v.related n)) ≡ map (hashed_f f) (map (hashed_related v c i) (v.related n)) =
-      map-map (hashed_related w (map f c) (map f i)) (carried f) (v.related n)
-      ∙ map-agree (λ (o : Occurrence A). Dom o.blank) (λ o. hashed_related w (map f c) (map f i) (carried f o)) (λ o. hashed_f f (hashed_related v c i o)) (λ o e. hashed-carried c i o hc hi e) (v.related n) inside
-      ∙ sym (map-map (hashed_f f) (hashed_related v c i) (v.related n)) in
-      grouped-carried f Dom (map (hashed_related v c i) (v.related n)) (map (hashed_related w (map f c) (map f i)) (w.related (f n)))
-      (Each-map (λ (h : Hashed A). Dom h.node) (hashed_related v c i) (v.related n) inside)
-      (subst (λ l. IsPermutation l (map (hashed_related w (map f c) (map f i)) (w.related (f n)))) turned moved)
+      let moved : IsPermutation (map (with_related_hash w (map f c) (map f i)) (map (carried f) (v.related n))) (map (with_related_hash w (map f c) (map f i)) (w.related (f n))) = IsPermutation-map (with_related_hash w (map f c) (map f i)) (map (carried f) (v.related n)) (w.related (f n)) (s.related n d) in
+      let turned : map (with_related_hash w (map f c) (map f i)) (map (carried f) (v.related n)) ≡ map (hashed_f f) (map (with_related_hash v c i) (v.related n)) =
+      map-map (with_related_hash w (map f c) (map f i)) (carried f) (v.related n)
+      ∙ map-agree (λ (o : Occurrence A). Dom o.blank) (λ o. with_related_hash w (map f c) (map f i) (carried f o)) (λ o. hashed_f f (with_related_hash v c i o)) (λ o e. hashed-carried c i o hc hi e) (v.related n) inside
+      ∙ sym (map-map (hashed_f f) (with_related_hash v c i) (v.related n)) in
+      grouped-carried f Dom (map (with_related_hash v c i) (v.related n)) (map (with_related_hash w (map f c) (map f i)) (w.related (f n)))
+      (Each-map (λ (h : NodeHash A). Dom h.node) (with_related_hash v c i) (v.related n) inside)
+      (subst (λ l. IsPermutation l (map (with_related_hash w (map f c) (map f i)) (w.related (f n)))) turned moved)
 
   -- ---- one arrangement
 
-  named-carried : (c i : List A) (m : A) → AllByRecursion Dom c → AllByRecursion Dom i → Dom m → named w (map f c) (map f i) (f m) ≡ map f (named v c i m)
+  named-carried : (c i : List A) (m : A) → AllByRecursion Dom c → AllByRecursion Dom i → Dom m → issue_temporary w (map f c) (map f i) (f m) ≡ map f (issue_temporary v c i m)
   named-carried c i m hc hi d =
       ap (λ b. if b then map f i else issue w (map f i) (f m)) (has-carried c m hc d)
       ∙ ap (λ l. if has v c m then map f i else l) (issue-carried i m hi d)
       ∙ either_map (has v c m) i (issue v i m)
 
-  named-inside : (c i : List A) (m : A) → AllByRecursion Dom i → Dom m → AllByRecursion Dom (named v c i m)
+  named-inside : (c i : List A) (m : A) → AllByRecursion Dom i → Dom m → AllByRecursion Dom (issue_temporary v c i m)
   named-inside c i m hi d = either_inside (has v c m) i (issue v i m) hi (issue-inside i m hi d)
 
   identifier-carried : (c i : List A) (m : A) → AllByRecursion Dom c → AllByRecursion Dom i → Dom m → identifier w (map f c) (map f i) (f m) ≡ identifier v c i m
@@ -189,42 +188,42 @@ module _ {A B : Type 0} (f : A → B) (Dom : A → Type 0) (v : Nodes A) (w : No
       ∙ ap (λ t. 95 ∷ 58 ∷ (if has v c m then t else temporary_id w (map f i) (f m))) (canonical_id-carried c m hc d)
       ∙ ap (λ t. 95 ∷ 58 ∷ (if has v c m then canonical_id v c m else t)) (temporary_id-carried i m hi d)
 
-  named_all-carried : (c i ms : List A) → AllByRecursion Dom c → AllByRecursion Dom i → AllByRecursion Dom ms → named_all w (map f c) (map f i) (map f ms) ≡ map f (named_all v c i ms)
+  named_all-carried : (c i ms : List A) → AllByRecursion Dom c → AllByRecursion Dom i → AllByRecursion Dom ms → issuer_copy w (map f c) (map f i) (map f ms) ≡ map f (issuer_copy v c i ms)
   named_all-carried c i [] hc hi hm = refl
   named_all-carried c i (m ∷ ms) hc hi hm =
-      ap (λ l. named_all w (map f c) l (map f ms)) (named-carried c i m hc hi hm.0)
-      ∙ named_all-carried c (named v c i m) ms hc (named-inside c i m hi hm.0) hm.1
+      ap (λ l. issuer_copy w (map f c) l (map f ms)) (named-carried c i m hc hi hm.0)
+      ∙ named_all-carried c (issue_temporary v c i m) ms hc (named-inside c i m hi hm.0) hm.1
 
-  named_all-inside : (c i ms : List A) → AllByRecursion Dom i → AllByRecursion Dom ms → AllByRecursion Dom (named_all v c i ms)
+  named_all-inside : (c i ms : List A) → AllByRecursion Dom i → AllByRecursion Dom ms → AllByRecursion Dom (issuer_copy v c i ms)
   named_all-inside c i [] hi hm = hi
-  named_all-inside c i (m ∷ ms) hi hm = named_all-inside c (named v c i m) ms (named-inside c i m hi hm.0) hm.1
+  named_all-inside c i (m ∷ ms) hi hm = named_all-inside c (issue_temporary v c i m) ms (named-inside c i m hi hm.0) hm.1
 
   first_path-carried : (c i ms : List A) → AllByRecursion Dom c → AllByRecursion Dom i → AllByRecursion Dom ms → first_path w (map f c) (map f i) (map f ms) ≡ first_path v c i ms
   first_path-carried c i [] hc hi hm = refl
   first_path-carried c i (m ∷ ms) hc hi hm =
-      let next : AllByRecursion Dom (named v c i m) = named-inside c i m hi hm.0 in
+      let next : AllByRecursion Dom (issue_temporary v c i m) = named-inside c i m hi hm.0 in
       ap (λ l. identifier w (map f c) l (f m) ++ first_path w (map f c) l (map f ms)) (named-carried c i m hc hi hm.0)
-      ∙ ap (λ t. t ++ first_path w (map f c) (map f (named v c i m)) (map f ms)) (identifier-carried c (named v c i m) m hc next hm.0)
-      ∙ ap (λ t. identifier v c (named v c i m) m ++ t) (first_path-carried c (named v c i m) ms hc next hm.1)
+      ∙ ap (λ t. t ++ first_path w (map f c) (map f (issue_temporary v c i m)) (map f ms)) (identifier-carried c (issue_temporary v c i m) m hc next hm.0)
+      ∙ ap (λ t. identifier v c (issue_temporary v c i m) m ++ t) (first_path-carried c (issue_temporary v c i m) ms hc next hm.1)
 
   new_if : (b : Bool) (m : A) (xs ys : List A) (us vs : List B) → us ≡ map f xs → vs ≡ map f ys → (if b then us else f m ∷ vs) ≡ map f (if b then xs else m ∷ ys)
   new_if true m xs ys us vs p q = p
   new_if false m xs ys us vs p q = ap (λ l. f m ∷ l) q
 
-  newly_named-carried : (c i ms : List A) → AllByRecursion Dom c → AllByRecursion Dom i → AllByRecursion Dom ms → newly_named w (map f c) (map f i) (map f ms) ≡ map f (newly_named v c i ms)
+  newly_named-carried : (c i ms : List A) → AllByRecursion Dom c → AllByRecursion Dom i → AllByRecursion Dom ms → recursion_list w (map f c) (map f i) (map f ms) ≡ map f (recursion_list v c i ms)
   newly_named-carried c i [] hc hi hm = refl
   newly_named-carried c i (m ∷ ms) hc hi hm =
-      ap (λ b. if b || has w (map f i) (f m) then newly_named w (map f c) (map f i) (map f ms) else f m ∷ newly_named w (map f c) (named w (map f c) (map f i) (f m)) (map f ms)) (has-carried c m hc hm.0)
-      ∙ ap (λ b. if has v c m || b then newly_named w (map f c) (map f i) (map f ms) else f m ∷ newly_named w (map f c) (named w (map f c) (map f i) (f m)) (map f ms)) (has-carried i m hi hm.0)
-      ∙ new_if (has v c m || has v i m) m (newly_named v c i ms) (newly_named v c (named v c i m) ms) (newly_named w (map f c) (map f i) (map f ms)) (newly_named w (map f c) (named w (map f c) (map f i) (f m)) (map f ms))
+      ap (λ b. if b || has w (map f i) (f m) then recursion_list w (map f c) (map f i) (map f ms) else f m ∷ recursion_list w (map f c) (issue_temporary w (map f c) (map f i) (f m)) (map f ms)) (has-carried c m hc hm.0)
+      ∙ ap (λ b. if has v c m || b then recursion_list w (map f c) (map f i) (map f ms) else f m ∷ recursion_list w (map f c) (issue_temporary w (map f c) (map f i) (f m)) (map f ms)) (has-carried i m hi hm.0)
+      ∙ new_if (has v c m || has v i m) m (recursion_list v c i ms) (recursion_list v c (issue_temporary v c i m) ms) (recursion_list w (map f c) (map f i) (map f ms)) (recursion_list w (map f c) (issue_temporary w (map f c) (map f i) (f m)) (map f ms))
       (newly_named-carried c i ms hc hi hm.1)
-      (ap (λ l. newly_named w (map f c) l (map f ms)) (named-carried c i m hc hi hm.0) ∙ newly_named-carried c (named v c i m) ms hc (named-inside c i m hi hm.0) hm.1)
+      (ap (λ l. recursion_list w (map f c) l (map f ms)) (named-carried c i m hc hi hm.0) ∙ newly_named-carried c (issue_temporary v c i m) ms hc (named-inside c i m hi hm.0) hm.1)
 
-  newly_named-inside : (c i ms : List A) → AllByRecursion Dom ms → AllByRecursion Dom (newly_named v c i ms)
+  newly_named-inside : (c i ms : List A) → AllByRecursion Dom ms → AllByRecursion Dom (recursion_list v c i ms)
   newly_named-inside c i [] hm = tt
-  newly_named-inside c i (m ∷ ms) hm = either_inside (has v c m || has v i m) (newly_named v c i ms) (m ∷ newly_named v c (named v c i m) ms) (newly_named-inside c i ms hm.1) (hm.0, newly_named-inside c (named v c i m) ms hm.1)
+  newly_named-inside c i (m ∷ ms) hm = either_inside (has v c m || has v i m) (recursion_list v c i ms) (m ∷ recursion_list v c (issue_temporary v c i m) ms) (newly_named-inside c i ms hm.1) (hm.0, newly_named-inside c (issue_temporary v c i m) ms hm.1)
 
-  entry-carried : (i : List A) (m : A) (hash : List ℕ) → AllByRecursion Dom i → Dom m → entry w (map f i) (f m) hash ≡ entry v i m hash
+  entry-carried : (i : List A) (m : A) (hash : List ℕ) → AllByRecursion Dom i → Dom m → path_part w (map f i) (f m) hash ≡ path_part v i m hash
   entry-carried i m hash hi d = ap (λ t. 95 ∷ 58 ∷ (t ++ (60 ∷ (hash ++ 62 ∷ [])))) (temporary_id-carried i m hi d)
 
   -- nested calls are carried
@@ -235,7 +234,7 @@ module _ {A B : Type 0} (f : A → B) (Dom : A → Type 0) (v : Nodes A) (w : No
   nested calls calls' k i path [] t hi hm d = record { in_domain = subst (λ (u : Trail A). AllByRecursion Dom u.issuer) (sym d) hi; is_there = ap (trail_f f) d }
   nested calls calls' k i path (m ∷ ms) t hi hm d =
       let one = k m i d.outcome hm.0 hi d.called in
-      let more = nested calls calls' k d.outcome.issuer (path ++ entry v i m d.outcome.hash) ms d.rest one.in_domain hm.1 d.goes_on in
+      let more = nested calls calls' k d.outcome.issuer (path ++ path_part v i m d.outcome.hash) ms d.rest one.in_domain hm.1 d.goes_on in
       record {
         in_domain = subst (λ (u : Trail A). AllByRecursion Dom u.issuer) (sym d.is) more.in_domain;
         is_there = record {
@@ -249,13 +248,13 @@ module _ {A B : Type 0} (f : A → B) (Dom : A → Type 0) (v : Nodes A) (w : No
 
   pub Evaluates-carried : (calls : Calls A) (calls' : Calls B) → CallsCarried calls calls' → (c i p : List A) (t : Trail A) → AllByRecursion Dom c → AllByRecursion Dom i → AllByRecursion Dom p → Evaluates v calls c i p t → Arrives Dom t.issuer (Evaluates w calls' (map f c) (map f i) (map f p) (trail_f f t))
   Evaluates-carried calls calls' k c i p t hc hi hp d =
-      let r = nested calls calls' k (named_all v c i p) (first_path v c i p) (newly_named v c i p) t (named_all-inside c i p hi hp) (newly_named-inside c i p hp) d in
+      let r = nested calls calls' k (issuer_copy v c i p) (first_path v c i p) (recursion_list v c i p) t (named_all-inside c i p hi hp) (newly_named-inside c i p hp) d in
       record {
         in_domain = r.in_domain;
         is_there =
-            subst (λ l. Nested w calls' l (first_path w (map f c) (map f i) (map f p)) (newly_named w (map f c) (map f i) (map f p)) (trail_f f t)) (sym (named_all-carried c i p hc hi hp))
-            (subst (λ l. Nested w calls' (map f (named_all v c i p)) l (newly_named w (map f c) (map f i) (map f p)) (trail_f f t)) (sym (first_path-carried c i p hc hi hp))
-            (subst (λ l. Nested w calls' (map f (named_all v c i p)) (first_path v c i p) l (trail_f f t)) (sym (newly_named-carried c i p hc hi hp)) r.is_there));
+            subst (λ l. Nested w calls' l (first_path w (map f c) (map f i) (map f p)) (recursion_list w (map f c) (map f i) (map f p)) (trail_f f t)) (sym (named_all-carried c i p hc hi hp))
+            (subst (λ l. Nested w calls' (map f (issuer_copy v c i p)) l (recursion_list w (map f c) (map f i) (map f p)) (trail_f f t)) (sym (first_path-carried c i p hc hi hp))
+            (subst (λ l. Nested w calls' (map f (issuer_copy v c i p)) (first_path v c i p) l (trail_f f t)) (sym (newly_named-carried c i p hc hi hp)) r.is_there));
       }
 
   -- ---- one group
@@ -358,26 +357,6 @@ module _ {A B : Type 0} (f : A → B) (Dom : A → Type 0) (v : Nodes A) (w : No
   IsNDegree-inside c n i o hc hi dn d = (call_arrives c n i o hc hi dn d).in_domain
 
   -- ---- what a call answers
-
-  pub AnswersCall-carried : (c : List A) (n : A) (i : List A) (hash : List ℕ) (issuer : List A) (tie : Bool) (old new depth limit : ℕ) → AllByRecursion Dom c → AllByRecursion Dom i → Dom n → AnswersCall v c n i hash issuer tie old new depth limit → AnswersCall w (map f c) (f n) (map f i) hash (map f issuer) tie old new depth limit
-  AnswersCall-carried c n i hash issuer tie old new depth limit hc hi dn d = record {
-    outcome = outcome_f f d.outcome;
-    call = IsNDegree-carried c n i d.outcome hc hi dn d.call;
-    hash_is = d.hash_is;
-    issuer_is = ap (map f) d.issuer_is;
-    tie_is = d.tie_is;
-    spent = d.spent;
-    within = d.within;
-  }
-
-  pub AnswersCall-inside : (c : List A) (n : A) (i : List A) (hash : List ℕ) (issuer : List A) (tie : Bool) (old new depth limit : ℕ) → AllByRecursion Dom c → AllByRecursion Dom i → Dom n → AnswersCall v c n i hash issuer tie old new depth limit → AllByRecursion Dom issuer
-  AnswersCall-inside c n i hash issuer tie old new depth limit hc hi dn d = subst (AllByRecursion Dom) (sym d.issuer_is) (IsNDegree-inside c n i d.outcome hc hi dn d.call)
-
-  pub CallOver-carried : (c : List A) (n : A) (i : List A) (old limit : ℕ) → AllByRecursion Dom c → AllByRecursion Dom i → Dom n → CallOver v c n i old limit → CallOver w (map f c) (f n) (map f i) old limit
-  CallOver-carried c n i old limit hc hi dn d = record { outcome = outcome_f f d.outcome; call = IsNDegree-carried c n i d.outcome hc hi dn d.call; over = d.over }
-
-  pub CallDeep-carried : (c : List A) (n : A) (i : List A) (depth limit : ℕ) → AllByRecursion Dom c → AllByRecursion Dom i → Dom n → CallDeep v c n i depth limit → CallDeep w (map f c) (f n) (map f i) depth limit
-  CallDeep-carried c n i depth limit hc hi dn d = record { outcome = outcome_f f d.outcome; call = IsNDegree-carried c n i d.outcome hc hi dn d.call; over = d.over }
 
 -- ---- the way back, along a map that undoes the first
 

@@ -2,14 +2,14 @@
 use Rattle.std.proofs.Common.{◌≡◌, ℕ, List, [], ◌∷◌, true, false, refl, None, codes}
 use Rattle.std.specs.Fmt.{digits}
 use Rattle.nquads.specs.Terms.{by_label, Blank, iri, blank, Statement}
-use Rattle.rdfc_ndegree.specs.Run.{Result, run_end}
+use Rattle.rdfc_ndegree.specs.Run.{RunOutcome, run_end}
 use Rattle.rdfc_ndegree.proofs.Lawful.{nodes-lawful}
 use Rattle.rdfc_ndegree.proofs.Exists.{run-exists, rounds-exist, in_hash_order, put_result, results-exist, IsNDegree-exists, within_exists, call_if, groups_if, choice_if, IsChoice-from_trails, trails_if, evaluates_if, nested_if, best_of_some, best_among, better}
 
 abbrev pub unchanged : List ℕ → List ℕ
 unchanged text = text
 
-abbrev pub run : List Statement → Result Blank
+abbrev pub run : List Statement → RunOutcome Blank
 run q = (run-exists (nodes-lawful unchanged q)).0
 
 abbrev pub labelled : ℕ → Blank

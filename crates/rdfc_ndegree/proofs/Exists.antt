@@ -8,13 +8,14 @@ use Rattle.std.proofs.lemmas.List.Sorted.{IsPermutation-refl, IsPermutation-sym,
 use Rattle.base_types.specs.Order.{is_upto}
 use Rattle.base_types.proofs.Lists.{Contains-here, Contains-there, Contains-cons_cases, Contains-nil, Contains-from_map}
 use Rattle.base_types.proofs.Orders.{is_upto-refl, is_upto-back, is_upto-transitive}
-use Rattle.rdfc_ndegree.specs.Nodes.{Nodes, AreNodes, Occurrence}
+use Rattle.rdfc_ndegree.specs.Nodes.{Nodes, Occurrence}
+use Rattle.rdfc_ndegree.specs.Internal.Nodes.{AreNodes}
 use Rattle.rdfc_ndegree.specs.Issuers.{has, issue}
-use Rattle.rdfc_ndegree.specs.Groups.{Hashed, Group, hashed_related, related_groups}
-use Rattle.rdfc_ndegree.specs.NDegree.{Outcome, Trail, Choice, Calls, named, named_all, first_path, newly_named, entry, trail_end, trail_more, Nested, Evaluates, AreArrangements, IsChoice, chosen, InGroups, outcome_end, outcome_more, one_deeper, IsCall, IsNDegreeWithin, IsNDegree}
-use Rattle.rdfc_ndegree.specs.Run.{hashed_first, first_groups, alone, lacking, take_issuers, InHashOrder, Result, run_end, run_more, Rounds, IsRun}
-use Rattle.rdfc_ndegree.specs.Branches.{branches}
-pub use Rattle.rdfc_ndegree.specs.Lack.{lack, Grows, AreListed}
+use Rattle.rdfc_ndegree.specs.Groups.{NodeHash, Group, with_related_hash, related_groups}
+use Rattle.rdfc_ndegree.specs.NDegree.{Outcome, Trail, Choice, Calls, issue_temporary, issuer_copy, first_path, recursion_list, path_part, trail_end, trail_more, Nested, Evaluates, AreArrangements, IsChoice, choice_of, InGroups, outcome_end, outcome_more, one_deeper, IsCall, IsNDegreeWithin, IsNDegree}
+use Rattle.rdfc_ndegree.specs.Run.{with_first_hash, first_groups, alone, lacking, take_issuers, InHashOrder, RunOutcome, run_end, run_more, Rounds, IsRun}
+use Rattle.rdfc_ndegree.proofs.Branches.{branches}
+pub use Rattle.rdfc_ndegree.proofs.Lack.{lack, Grows, AreListed}
 use Rattle.rdfc_ndegree.proofs.Basics.{Contains-from_filter, AllZip-from_left, has-issue, grouped-member}
 use Rattle.rdfc_ndegree.proofs.Branching.{branches-are, arrangements-some, arrangement-member}
 use Rattle.rdfc_ndegree.proofs.Grow.{CallsGrow, Grows-named, Grows-named_all, IsChoice-grows_if, IsNDegreeWithin-grows, IsNDegree-grows}
@@ -74,16 +75,16 @@ module _ {B : Type 0} (v : Nodes B) where
 
   -- ---- what an arrangement names
 
-  pub newly_named-member : (c i p : List B) (m : B) → Contains (newly_named v c i p) m → Contains p m
+  pub newly_named-member : (c i p : List B) (m : B) → Contains (recursion_list v c i p) m → Contains p m
   newly_named-member c i [] m k = k
-  newly_named-member c i (x ∷ xs) m k = go (has v c x || has v i x) k (newly_named-member c i xs m) (newly_named-member c (named v c i x) xs m)
+  newly_named-member c i (x ∷ xs) m k = go (has v c x || has v i x) k (newly_named-member c i xs m) (newly_named-member c (issue_temporary v c i x) xs m)
     where
-      go : (b : Bool) → Contains (cond b (newly_named v c i xs) (x ∷ newly_named v c (named v c i x) xs)) m → (Contains (newly_named v c i xs) m → Contains xs m) → (Contains (newly_named v c (named v c i x) xs) m → Contains xs m) → Contains (x ∷ xs) m
+      go : (b : Bool) → Contains (cond b (recursion_list v c i xs) (x ∷ recursion_list v c (issue_temporary v c i x) xs)) m → (Contains (recursion_list v c i xs) m → Contains xs m) → (Contains (recursion_list v c (issue_temporary v c i x) xs) m → Contains xs m) → Contains (x ∷ xs) m
       go true l f g = Contains-there x xs m (f l)
-      go false l f g = ⊎_elim (λ e. subst (Contains (x ∷ xs)) e (Contains-here x xs)) (λ n. Contains-there x xs m (g n)) (Contains-cons_cases x (newly_named v c (named v c i x) xs) m l)
+      go false l f g = ⊎_elim (λ e. subst (Contains (x ∷ xs)) e (Contains-here x xs)) (λ n. Contains-there x xs m (g n)) (Contains-cons_cases x (recursion_list v c (issue_temporary v c i x) xs) m l)
 
   -- a member that has an identifier leaves the issuer as it is
-  named-known : (c i : List B) (m : B) → (has v c m || has v i m) ≡ true → named v c i m ≡ i
+  named-known : (c i : List B) (m : B) → (has v c m || has v i m) ≡ true → issue_temporary v c i m ≡ i
   named-known c i m e = go (has v c m) (has v i m) e
     where
       go : (a b : Bool) → (a || b) ≡ true → cond a i (cond b i (i ++ m ∷ [])) ≡ i
@@ -91,36 +92,36 @@ module _ {B : Type 0} (v : Nodes B) where
       go false true k = refl
       go false false k = absurd (false≢true k)
 
-  pub named-has : AreNodes v → (c i : List B) (m : B) → has v c m ≡ false → has v (named v c i m) m ≡ true
+  pub named-has : AreNodes v → (c i : List B) (m : B) → has v c m ≡ false → has v (issue_temporary v c i m) m ≡ true
   named-has laws c i m e = subst (λ b. has v (cond b i (issue v i m)) m ≡ true) (sym e) (has-issue v laws i m)
 
-  walks : AreNodes v → (c i p us : List B) → ((m : B) → Contains p m → Contains us m) → (newly_named v c i p ≡ []) ⊎ (lack v c (named_all v c i p) us < lack v c i us)
+  walks : AreNodes v → (c i p us : List B) → ((m : B) → Contains p m → Contains us m) → (recursion_list v c i p ≡ []) ⊎ (lack v c (issuer_copy v c i p) us < lack v c i us)
   walks laws c i [] us h = inl refl
   walks laws c i (m ∷ ms) us h = go (has v c m || has v i m) refl (walks laws c i ms us (λ x k. h x (Contains-there m ms x k)))
     where
-      go : (b : Bool) → (has v c m || has v i m) ≡ b → (newly_named v c i ms ≡ []) ⊎ (lack v c (named_all v c i ms) us < lack v c i us) → (cond b (newly_named v c i ms) (m ∷ newly_named v c (named v c i m) ms) ≡ []) ⊎ (lack v c (named_all v c (named v c i m) ms) us < lack v c i us)
-      go true e rest = ⊎_elim (λ n. inl n) (λ l. inr (subst (λ j. lack v c (named_all v c j ms) us < lack v c i us) (sym (named-known c i m e)) l)) rest
+      go : (b : Bool) → (has v c m || has v i m) ≡ b → (recursion_list v c i ms ≡ []) ⊎ (lack v c (issuer_copy v c i ms) us < lack v c i us) → (cond b (recursion_list v c i ms) (m ∷ recursion_list v c (issue_temporary v c i m) ms) ≡ []) ⊎ (lack v c (issuer_copy v c (issue_temporary v c i m) ms) us < lack v c i us)
+      go true e rest = ⊎_elim (λ n. inl n) (λ l. inr (subst (λ j. lack v c (issuer_copy v c j ms) us < lack v c i us) (sym (named-known c i m e)) l)) rest
       go false e rest =
-          let less : lack v c (named v c i m) us < lack v c i us =
-          lack-less c i (named v c i m) us m (Grows-named v c i m) (h m (Contains-here m ms)) e (named-has laws c i m (or_parts (has v c m) (has v i m) e).0) in
-          let more : lack v c (named_all v c (named v c i m) ms) us ≤ lack v c (named v c i m) us = lack-grows c (named v c i m) (named_all v c (named v c i m) ms) us (Grows-named_all v c (named v c i m) ms) in
+          let less : lack v c (issue_temporary v c i m) us < lack v c i us =
+          lack-less c i (issue_temporary v c i m) us m (Grows-named v c i m) (h m (Contains-here m ms)) e (named-has laws c i m (or_parts (has v c m) (has v i m) e).0) in
+          let more : lack v c (issuer_copy v c (issue_temporary v c i m) ms) us ≤ lack v c (issue_temporary v c i m) us = lack-grows c (issue_temporary v c i m) (issuer_copy v c (issue_temporary v c i m) ms) us (Grows-named_all v c (issue_temporary v c i m) ms) in
           inr (omega arith)
 
-  pub walk-less : AreNodes v → (c i p : List B) → AreListed v p → (newly_named v c i p ≡ []) ⊎ (lack v c (named_all v c i p) v.all < lack v c i v.all)
+  pub walk-less : AreNodes v → (c i p : List B) → AreListed v p → (recursion_list v c i p ≡ []) ⊎ (lack v c (issuer_copy v c i p) v.all < lack v c i v.all)
   walk-less laws c i p h = walks laws c i p v.all h
 
   pub groups-listed : AreNodes v → (c i : List B) (n : B) (g : Group B) (m : B) → Contains v.all n → Contains (related_groups v c i n) g → Contains g.members m → Contains v.all m
   groups-listed laws c i n g m listed k l =
-      let h = grouped-member (map (hashed_related v c i) (v.related n)) g m k l in
-      let found = Contains-from_map (hashed_related v c i) (v.related n) h.of h.within in
+      let h = grouped-member (map (with_related_hash v c i) (v.related n)) g m k l in
+      let found = Contains-from_map (with_related_hash v c i) (v.related n) h.of h.within in
       let inside : Contains v.all found.0.blank = All-contains (λ (o : Occurrence B). Contains v.all o.blank) (v.related n) found.0 (laws.closed n listed) found.1 in
-      subst (Contains v.all) (ap (λ (z : Hashed B). z.node) found.2 ∙ h.node_is) inside
+      subst (Contains v.all) (ap (λ (z : NodeHash B). z.node) found.2 ∙ h.node_is) inside
 
   pub first_groups-listed : (g : Group B) → Contains (first_groups v) g → AreListed v g.members
   first_groups-listed g k m l =
-      let h = grouped-member (map (hashed_first v) v.all) g m k l in
-      let found = Contains-from_map (hashed_first v) v.all h.of h.within in
-      subst (Contains v.all) (ap (λ (z : Hashed B). z.node) found.2 ∙ h.node_is) found.1
+      let h = grouped-member (map (with_first_hash v) v.all) g m k l in
+      let found = Contains-from_map (with_first_hash v) v.all h.of h.within in
+      subst (Contains v.all) (ap (λ (z : NodeHash B). z.node) found.2 ∙ h.node_is) found.1
 
 -- ---- a trail with a least path
 
@@ -149,7 +150,7 @@ best_of_some [] u k = absurd (Contains-nil u k)
 best_of_some (t ∷ ts) u k = best_among t ts
 
 -- trails of all arrangements make a choice
-unfoldable pub IsChoice-from_trails : {B : Type 0} (evaluates : List B → Trail B → Type 0) (members : List B) (ps : List (List B)) (ts : List (Trail B)) → AreArrangements members ps → AllZip evaluates ps ts → (best : Trail B) × IsChoice evaluates members (chosen best ts)
+unfoldable pub IsChoice-from_trails : {B : Type 0} (evaluates : List B → Trail B → Type 0) (members : List B) (ps : List (List B)) (ts : List (Trail B)) → AreArrangements members ps → AllZip evaluates ps ts → (best : Trail B) × IsChoice evaluates members (choice_of best ts)
 IsChoice-from_trails evaluates members ps ts all evaluated =
     let some = AllZip-from_left evaluates ps ts members evaluated (arrangements-some all) in
     let best = best_of_some ts some.0 some.1 in (
@@ -171,16 +172,16 @@ module _ {B : Type 0} {v : Nodes B} (laws : AreNodes v) (c : List B) (calls : Ca
   nested_if i path [] h l = (trail_end i path, refl)
   nested_if i path (m ∷ ms) h l =
       let o = exist m i (h m (Contains-here m ms)) (l m (Contains-here m ms)) in
-      let rest = nested_if o.0.issuer (path ++ entry v i m o.0.hash) ms (λ x e. h x (Contains-there m ms x e)) (λ x e. still_less i o.0.issuer (grow m i o.0 o.1) (l m (Contains-here m ms))) in
+      let rest = nested_if o.0.issuer (path ++ path_part v i m o.0.hash) ms (λ x e. h x (Contains-there m ms x e)) (λ x e. still_less i o.0.issuer (grow m i o.0 o.1) (l m (Contains-here m ms))) in
       (trail_more path o.0 rest.0, record { outcome = o.0; rest = rest.0; called = o.1; goes_on = rest.1; is = refl })
 
-  pub within_walk : (i p : List B) → AreListed v p → lack v c i v.all ≤ k → (m : B) → Contains (newly_named v c i p) m → lack v c (named_all v c i p) v.all < k
+  pub within_walk : (i p : List B) → AreListed v p → lack v c i v.all ≤ k → (m : B) → Contains (recursion_list v c i p) m → lack v c (issuer_copy v c i p) v.all < k
   within_walk i p h l m e =
       ⊎_elim (λ none. absurd (Contains-nil m (subst (λ ms. Contains ms m) none e))) (λ less. omega arith) (walk-less v laws c i p h)
 
   unfoldable pub evaluates_if : (i p : List B) → AreListed v p → lack v c i v.all ≤ k → (t : Trail B) × Evaluates v calls c i p t
   evaluates_if i p h l =
-      nested_if (named_all v c i p) (first_path v c i p) (newly_named v c i p) (λ m e. h m (newly_named-member v c i p m e)) (within_walk i p h l)
+      nested_if (issuer_copy v c i p) (first_path v c i p) (recursion_list v c i p) (λ m e. h m (newly_named-member v c i p m e)) (within_walk i p h l)
 
   unfoldable pub trails_if : (i : List B) (ps : List (List B)) → ((p : List B) → Contains ps p → AreListed v p) → lack v c i v.all ≤ k → (ts : List (Trail B)) × AllZip (Evaluates v calls c i) ps ts
   trails_if i [] h l = ([], tt)
@@ -193,7 +194,7 @@ module _ {B : Type 0} {v : Nodes B} (laws : AreNodes v) (c : List B) (calls : Ca
   choice_if i members h l =
       let ts = trails_if i (branches v.same (length members) members) (λ p e m f. h m (arrangement-member (branches-are laws members) p m e f)) l in
       let best = IsChoice-from_trails (Evaluates v calls c i) members (branches v.same (length members) members) ts.0 (branches-are laws members) ts.1 in
-      (chosen best.0 ts.0, best.1)
+      (choice_of best.0 ts.0, best.1)
 
   unfoldable pub groups_if : (text : List ℕ) (i : List B) (gs : List (Group B)) → ((g : Group B) → Contains gs g → AreListed v g.members) → lack v c i v.all ≤ k → (o : Outcome B) × InGroups v calls c text i gs o
   groups_if text i [] h l = (outcome_end v text i, refl)
@@ -224,7 +225,7 @@ module _ {B : Type 0} {v : Nodes B} (laws : AreNodes v) where
       nested_if laws c (IsNDegree v c) (IsNDegree-grows v c) (suc (lack v c i v.all)) (λ n j listed l. IsNDegree-exists c n j listed) i path ms h (λ m e. omega arith)
 
   pub evaluates-exists : (c i p : List B) → AreListed v p → (t : Trail B) × Evaluates v (IsNDegree v c) c i p t
-  evaluates-exists c i p h = nested-exists c (named_all v c i p) (first_path v c i p) (newly_named v c i p) (λ m e. h m (newly_named-member v c i p m e))
+  evaluates-exists c i p h = nested-exists c (issuer_copy v c i p) (first_path v c i p) (recursion_list v c i p) (λ m e. h m (newly_named-member v c i p m e))
 
   pub trails-exist : (c i : List B) (ps : List (List B)) → ((p : List B) → Contains ps p → AreListed v p) → (ts : List (Trail B)) × AllZip (Evaluates v (IsNDegree v c) c i) ps ts
   trails-exist c i ps h =
@@ -290,7 +291,7 @@ module _ {B : Type 0} {v : Nodes B} (laws : AreNodes v) where
   pub lacking-listed : (c ns : List B) → AreListed v ns → AreListed v (lacking v c ns)
   lacking-listed c ns h m k = h m (Contains-from_filter (λ n. not (has v c n)) ns m k).0
 
-  unfoldable pub rounds-exist : (c : List B) (gs : List (Group B)) → ((g : Group B) → Contains gs g → AreListed v g.members) → (r : Result B) × Rounds v c gs r
+  unfoldable pub rounds-exist : (c : List B) (gs : List (Group B)) → ((g : Group B) → Contains gs g → AreListed v g.members) → (r : RunOutcome B) × Rounds v c gs r
   rounds-exist c [] h = (run_end c, refl)
   rounds-exist c (g ∷ gs) h =
       let results = results-exist c (lacking v c g.members) (lacking-listed c g.members (h g (Contains-here g gs))) in
@@ -300,5 +301,5 @@ module _ {B : Type 0} {v : Nodes B} (laws : AreNodes v) where
         record { outcomes = results.0; sorted = sorted.0; rest = rest.0; hashed = results.1; order = sorted.1; in_order = sorted.2; goes_on = rest.1; is = refl },
       )
 
-  unfoldable pub run-exists : (r : Result B) × IsRun v r
+  unfoldable pub run-exists : (r : RunOutcome B) × IsRun v r
   run-exists = let r = rounds-exist (alone (first_groups v)) (first_groups v) (first_groups-listed v) in (r.0, record { rounds = r.1 })

@@ -6,8 +6,9 @@ use Rattle.base_types.proofs.Lists.{Contains-map}
 use Rattle.rdfc_ndegree.specs.declared.related.HashedNode.{HashedNode}
 use Rattle.rdfc_ndegree.specs.declared.related.NodeGroup.{NodeGroup}
 use Rattle.rdfc_ndegree.specs.declared.table.NodeRow.{NodeRow}
-use Rattle.rdfc_ndegree.specs.Kept.{hashed_in, group_in}
-use Rattle.rdfc_ndegree.specs.Run.{hashed_first, first_groups}
+use Rattle.rdfc_ndegree.specs.Internal.Grouping.{node_hash}
+use Rattle.rdfc_ndegree.specs.Table.{group_in}
+use Rattle.rdfc_ndegree.specs.Run.{with_first_hash, first_groups}
 use Rattle.rdfc_ndegree.specs.Table.{numbers_below, first_in, table_nodes}
 use Rattle.rdfc_ndegree.proofs.Tables.{table-all, table-first}
 use Rattle.rdfc_ndegree.proofs.TableCarry.{numbers-below}
@@ -23,18 +24,18 @@ module _ (rows : List NodeRow) where
   pub first-hash : (n : ℕ) (row : NodeRow) → Some row ≡ slice_get rows n → row.first ≡ (table_nodes rows).first n
   first-hash n row is = ap first_in is ∙ sym (table-first rows n)
 
-  pub rows-next : (hs new : List HashedNode) (n : ℕ) (row : NodeRow) (h : HashedNode) → map hashed_in hs ≡ map (hashed_first (table_nodes rows)) (numbers_below n)
+  pub rows-next : (hs new : List HashedNode) (n : ℕ) (row : NodeRow) (h : HashedNode) → map node_hash hs ≡ map (with_first_hash (table_nodes rows)) (numbers_below n)
       → Some row ≡ slice_get rows n → h.hash ≡ row.first → h.node ≡ n → new ≡ hs ++ h ∷ []
-      → map hashed_in new ≡ map (hashed_first (table_nodes rows)) (numbers_below (n + 1))
+      → map node_hash new ≡ map (with_first_hash (table_nodes rows)) (numbers_below (n + 1))
   rows-next hs new n row h done is hash node pushed =
       let first = hash ∙ first-hash n row is in
-      let last : hashed_in h ≡ hashed_first (table_nodes rows) n = λ i. record { hash = first i; node = node i } in
-      ap (map hashed_in) pushed ∙ map-append hashed_in hs (h ∷ []) ∙ (λ i. done i ++ last i ∷ [])
-      ∙ sym (map-append (hashed_first (table_nodes rows)) (numbers_below n) (n ∷ []))
-      ∙ ap (λ k. map (hashed_first (table_nodes rows)) (numbers_below k)) (sym (add-one n))
+      let last : node_hash h ≡ with_first_hash (table_nodes rows) n = λ i. record { hash = first i; node = node i } in
+      ap (map node_hash) pushed ∙ map-append node_hash hs (h ∷ []) ∙ (λ i. done i ++ last i ∷ [])
+      ∙ sym (map-append (with_first_hash (table_nodes rows)) (numbers_below n) (n ∷ []))
+      ∙ ap (λ k. map (with_first_hash (table_nodes rows)) (numbers_below k)) (sym (add-one n))
 
-  pub rows-end : (n : ℕ) → n ≡ length rows → map (hashed_first (table_nodes rows)) (numbers_below n) ≡ map (hashed_first (table_nodes rows)) (table_nodes rows).all
-  rows-end n e = ap (λ ns. map (hashed_first (table_nodes rows)) ns) (ap numbers_below e ∙ sym (table-all rows))
+  pub rows-end : (n : ℕ) → n ≡ length rows → map (with_first_hash (table_nodes rows)) (numbers_below n) ≡ map (with_first_hash (table_nodes rows)) (table_nodes rows).all
+  rows-end n e = ap (λ ns. map (with_first_hash (table_nodes rows)) ns) (ap numbers_below e ∙ sym (table-all rows))
 
   pub first-listed : (groups : List NodeGroup) → map group_in groups ≡ first_groups (table_nodes rows) → All (λ (g : NodeGroup). All (λ m. m < length rows) g.members) groups
   first-listed groups is k d lt m e within =

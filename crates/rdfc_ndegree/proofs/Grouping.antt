@@ -15,8 +15,8 @@ use Rattle.base_types.specs.Sets.{SameElements}
 use Rattle.base_types.proofs.Lists.{Contains-here, Contains-there, Contains-cons_cases, Contains-nil, AllByRecursion-contains}
 use Rattle.base_types.proofs.Orders.{text_cmp, is_upto-cmp, bytes_eq-cmp, by_cmp}
 use Rattle.base_types.proofs.Rising.{rising-rises, rising-same, rising-free}
-use Rattle.rdfc_ndegree.specs.Groups.{Hashed, Group, group_of, grouped}
-use Rattle.rdfc_ndegree.specs.Kept.{single, added, hashed_in}
+use Rattle.rdfc_ndegree.specs.Groups.{NodeHash, Group, group_of, groups_by_hash}
+use Rattle.rdfc_ndegree.specs.Internal.Grouping.{group_of_one, add_to_groups, node_hash}
 use Rattle.rdfc_ndegree.specs.declared.related.HashedNode.{HashedNode}
 use Rattle.rdfc_ndegree.proofs.AgreeBasics.{bytes_eq-true, bytes_eq-same}
 use Rattle.rdfc_ndegree.proofs.CarryBasics.{Each-from_contains, filter-map_each}
@@ -78,39 +78,39 @@ put_once-after t u us less =
 -- ---- one node more, after all others
 
 module _ {B : Type 0} where
-  abbrev pub hashes : List (Hashed B) → List (List ℕ)
+  abbrev pub hashes : List (NodeHash B) → List (List ℕ)
   hashes hs = map (λ h. h.hash) hs
 
-  abbrev pub with_hash : List ℕ → List (Hashed B) → List (Hashed B)
+  abbrev pub with_hash : List ℕ → List (NodeHash B) → List (NodeHash B)
   with_hash t hs = filter (λ h. bytes_eq h.hash t) hs
 
-  group-other : (done : List (Hashed B)) (h : Hashed B) (t : List ℕ) → bytes_eq h.hash t ≡ false → group_of (done ++ h ∷ []) t ≡ group_of done t
+  group-other : (done : List (NodeHash B)) (h : NodeHash B) (t : List ℕ) → bytes_eq h.hash t ≡ false → group_of (done ++ h ∷ []) t ≡ group_of done t
   group-other done h t e = ap (λ hs. record { hash = t; members = map (λ k. k.node) hs }) (filter-push_no (λ k. bytes_eq k.hash t) done h e)
 
-  group-grown : (done : List (Hashed B)) (h : Hashed B) (t : List ℕ) → bytes_eq h.hash t ≡ true → group_of (done ++ h ∷ []) t ≡ record { hash = t; members = map (λ k. k.node) (with_hash t done) ++ h.node ∷ [] }
+  group-grown : (done : List (NodeHash B)) (h : NodeHash B) (t : List ℕ) → bytes_eq h.hash t ≡ true → group_of (done ++ h ∷ []) t ≡ record { hash = t; members = map (λ k. k.node) (with_hash t done) ++ h.node ∷ [] }
   group-grown done h t e =
       ap (λ ns. record { hash = t; members = ns }) (ap (map (λ k. k.node)) (filter-push_yes (λ k. bytes_eq k.hash t) done h e) ∙ map-append (λ k. k.node) (with_hash t done) (h ∷ []))
 
-  group-first : (done : List (Hashed B)) (h : Hashed B) → with_hash h.hash done ≡ [] → group_of (done ++ h ∷ []) h.hash ≡ single h
+  group-first : (done : List (NodeHash B)) (h : NodeHash B) → with_hash h.hash done ≡ [] → group_of (done ++ h ∷ []) h.hash ≡ group_of_one h
   group-first done h none = group-grown done h h.hash (bytes_eq-same h.hash h.hash refl) ∙ ap (λ hs. record { hash = h.hash; members = map (λ k. k.node) hs ++ h.node ∷ [] }) none
 
-  added-each : (done : List (Hashed B)) (h : Hashed B) (ts : List (List ℕ)) → IsStrictlySortedBy text_cmp ts → AllByRecursion (λ t. is_upto t h.hash ≡ true) ts → Contains ts h.hash ⊎ (with_hash h.hash done ≡ [])
-      → added (map (group_of done) ts) h ≡ map (group_of (done ++ h ∷ [])) (put_once h.hash ts)
+  added-each : (done : List (NodeHash B)) (h : NodeHash B) (ts : List (List ℕ)) → IsStrictlySortedBy text_cmp ts → AllByRecursion (λ t. is_upto t h.hash ≡ true) ts → Contains ts h.hash ⊎ (with_hash h.hash done ≡ [])
+      → add_to_groups (map (group_of done) ts) h ≡ map (group_of (done ++ h ∷ [])) (put_once h.hash ts)
   unfolding IsStrictlySortedBy
   added-each done h [] up all fresh = ⊎_elim (λ c. absurd (Contains-nil h.hash c)) (λ none. ap (λ g. g ∷ []) (sym (group-first done h none))) fresh
   added-each done h (u ∷ []) up all fresh = go (bytes_eq u h.hash) refl
     where
-      go : (b : Bool) → bytes_eq u h.hash ≡ b → added (map (group_of done) (u ∷ [])) h ≡ map (group_of (done ++ h ∷ [])) (put_once h.hash (u ∷ []))
+      go : (b : Bool) → bytes_eq u h.hash ≡ b → add_to_groups (map (group_of done) (u ∷ [])) h ≡ map (group_of (done ++ h ∷ [])) (put_once h.hash (u ∷ []))
       go true e =
           let back : bytes_eq h.hash u ≡ true = nat_list_eq_equiv.symm h.hash u ∙ e in
           let kept : put_once h.hash (u ∷ []) ≡ u ∷ [] = rw back refl in
-          let grown : added (map (group_of done) (u ∷ [])) h ≡ record { hash = u; members = map (λ k. k.node) (with_hash u done) ++ h.node ∷ [] } ∷ [] = rw e refl in
+          let grown : add_to_groups (map (group_of done) (u ∷ [])) h ≡ record { hash = u; members = map (λ k. k.node) (with_hash u done) ++ h.node ∷ [] } ∷ [] = rw e refl in
           grown ∙ ap (λ g. g ∷ []) (sym (group-grown done h u back)) ∙ ap (map (group_of (done ++ h ∷ []))) (sym kept)
       go false e =
           let back : bytes_eq h.hash u ≡ false = nat_list_eq_equiv.symm h.hash u ∙ e in
           let none : with_hash h.hash done ≡ [] = ⊎_elim (λ c. absurd (⊎_elim (λ s. let t = bytes_eq-same u u refl in let r : bytes_eq u h.hash ≡ true = subst (λ v. bytes_eq u v ≡ true) s t in cc) (λ d. Contains-nil h.hash d) (Contains-cons_cases u [] h.hash c))) (λ n. n) fresh in
           let after = put_once-after h.hash u [] (upto-less u h.hash all.0 e) in
-          let apart : added (map (group_of done) (u ∷ [])) h ≡ group_of done u ∷ single h ∷ [] = rw e refl in
+          let apart : add_to_groups (map (group_of done) (u ∷ [])) h ≡ group_of done u ∷ group_of_one h ∷ [] = rw e refl in
           apart ∙ (λ i. sym (group-other done h u back) i ∷ sym (group-first done h none) i ∷ []) ∙ ap (map (group_of (done ++ h ∷ []))) (sym after)
   added-each done h (u ∷ w ∷ us) up all fresh =
       let less = less-upto u w h.hash up.0.0 all.1.0 in
@@ -120,7 +120,7 @@ module _ {B : Type 0} where
       let rest = added-each done h (w ∷ us) up.1 all.1 later in
       (λ i. sym (group-other done h u back) i ∷ rest i) ∙ ap (map (group_of (done ++ h ∷ []))) (sym (put_once-after h.hash u (w ∷ us) less))
 
-  hash-there : (hs : List (Hashed B)) (t : List ℕ) → Contains (hashes hs) t ⊎ (with_hash t hs ≡ [])
+  hash-there : (hs : List (NodeHash B)) (t : List ℕ) → Contains (hashes hs) t ⊎ (with_hash t hs ≡ [])
   hash-there [] t = inr refl
   hash-there (h ∷ hs) t = go (bytes_eq h.hash t) refl (hash-there hs t)
     where
@@ -129,11 +129,11 @@ module _ {B : Type 0} where
       go false e (inl c) = inl (Contains-there h.hash (hashes hs) t c)
       go false e (inr none) = inr (rw e none)
 
-  all-upto : (hs : List (Hashed B)) (t : List ℕ) → AllByRecursion (λ h. is_upto h.hash t ≡ true) hs → AllByRecursion (λ u. is_upto u t ≡ true) (hashes hs)
+  all-upto : (hs : List (NodeHash B)) (t : List ℕ) → AllByRecursion (λ h. is_upto h.hash t ≡ true) hs → AllByRecursion (λ u. is_upto u t ≡ true) (hashes hs)
   all-upto [] t all = tt
   all-upto (h ∷ hs) t all = (all.0, all-upto hs t all.1)
 
-  pub grouped-push : (done : List (Hashed B)) (h : Hashed B) → AllByRecursion (λ (d : Hashed B). is_upto d.hash h.hash ≡ true) done → added (grouped done) h ≡ grouped (done ++ h ∷ [])
+  pub grouped-push : (done : List (NodeHash B)) (h : NodeHash B) → AllByRecursion (λ (d : NodeHash B). is_upto d.hash h.hash ≡ true) done → add_to_groups (groups_by_hash done) h ≡ groups_by_hash (done ++ h ∷ [])
   grouped-push done h all =
       let ts = hashes done in
       let same : SameElements (ts ++ h.hash ∷ []) (h.hash ∷ ts) = λ t. (Contains-permutation (ts ++ h.hash ∷ []) (h.hash ∷ ts) t (IsPermutation-to_front ts h.hash), Contains-permutation (h.hash ∷ ts) (ts ++ h.hash ∷ []) t (IsPermutation-sym _ _ (IsPermutation-to_front ts h.hash))) in
@@ -144,33 +144,33 @@ module _ {B : Type 0} where
 
   -- ---- lists with the same nodes under each hash
 
-  map-alike : (xs ys : List (Hashed B)) (ts : List (List ℕ)) → ((t : List ℕ) → with_hash t xs ≡ with_hash t ys) → map (group_of xs) ts ≡ map (group_of ys) ts
+  map-alike : (xs ys : List (NodeHash B)) (ts : List (List ℕ)) → ((t : List ℕ) → with_hash t xs ≡ with_hash t ys) → map (group_of xs) ts ≡ map (group_of ys) ts
   map-alike xs ys [] same = refl
   map-alike xs ys (t ∷ ts) same = let rest = map-alike xs ys ts same in λ i. record { hash = t; members = map (λ k. k.node) (same t i) } ∷ rest i
 
-  pub grouped-alike : (xs ys : List (Hashed B)) → SameElements (hashes xs) (hashes ys) → ((t : List ℕ) → with_hash t xs ≡ with_hash t ys) → grouped xs ≡ grouped ys
+  pub grouped-alike : (xs ys : List (NodeHash B)) → SameElements (hashes xs) (hashes ys) → ((t : List ℕ) → with_hash t xs ≡ with_hash t ys) → groups_by_hash xs ≡ groups_by_hash ys
   grouped-alike xs ys same each = ap (map (group_of xs)) (rising-free (hashes xs) (hashes ys) same) ∙ map-alike xs ys (sorted_set (hashes ys)) each
 
   -- ---- whatever holds of all nodes holds of all members
 
-  members-all : (P : B → Type 0) (p : Hashed B → Bool) (hs : List (Hashed B)) → AllByRecursion (λ (h : Hashed B). P h.node) hs → AllByRecursion P (map (λ h. h.node) (filter p hs))
+  members-all : (P : B → Type 0) (p : NodeHash B → Bool) (hs : List (NodeHash B)) → AllByRecursion (λ (h : NodeHash B). P h.node) hs → AllByRecursion P (map (λ h. h.node) (filter p hs))
   members-all P p [] all = tt
   members-all P p (h ∷ hs) all = elim (p h) as (λ b. AllByRecursion P (map (λ k. k.node) (cond b (h ∷ filter p hs) (filter p hs)))) [ true ↦ (all.0, members-all P p hs all.1) | false ↦ members-all P p hs all.1 ]
 
-  groups-all : (P : B → Type 0) (hs : List (Hashed B)) (ts : List (List ℕ)) → AllByRecursion (λ (h : Hashed B). P h.node) hs → AllByRecursion (λ (g : Group B). AllByRecursion P g.members) (map (group_of hs) ts)
+  groups-all : (P : B → Type 0) (hs : List (NodeHash B)) (ts : List (List ℕ)) → AllByRecursion (λ (h : NodeHash B). P h.node) hs → AllByRecursion (λ (g : Group B). AllByRecursion P g.members) (map (group_of hs) ts)
   groups-all P hs [] all = tt
   groups-all P hs (t ∷ ts) all = (members-all P (λ h. bytes_eq h.hash t) hs all, groups-all P hs ts all)
 
-  pub grouped-all : (P : B → Type 0) (hs : List (Hashed B)) → AllByRecursion (λ (h : Hashed B). P h.node) hs → AllByRecursion (λ (g : Group B). AllByRecursion P g.members) (grouped hs)
+  pub grouped-all : (P : B → Type 0) (hs : List (NodeHash B)) → AllByRecursion (λ (h : NodeHash B). P h.node) hs → AllByRecursion (λ (g : Group B). AllByRecursion P g.members) (groups_by_hash hs)
   grouped-all P hs all = groups-all P hs (sorted_set (hashes hs)) all
 
 -- ---- what a stable sort leaves
 
-with-kept : (t : List ℕ) (xs : List HashedNode) → filter (λ (h : Hashed ℕ). bytes_eq h.hash t) (map hashed_in xs) ≡ map hashed_in (filter (λ (h : HashedNode). bytes_eq h.hash t) xs)
-with-kept t xs = filter-map_each hashed_in (λ (h : Hashed ℕ). bytes_eq h.hash t) xs
+with-kept : (t : List ℕ) (xs : List HashedNode) → filter (λ (h : NodeHash ℕ). bytes_eq h.hash t) (map node_hash xs) ≡ map node_hash (filter (λ (h : HashedNode). bytes_eq h.hash t) xs)
+with-kept t xs = filter-map_each node_hash (λ (h : NodeHash ℕ). bytes_eq h.hash t) xs
 
-pub grouped-stable : (xs ys : List HashedNode) → IsPermutation xs ys → IsStableByKey (λ (h : HashedNode). h.hash) text_cmp xs ys → grouped (map hashed_in ys) ≡ grouped (map hashed_in xs)
-grouped-stable xs ys moved stable = grouped-alike (map hashed_in ys) (map hashed_in xs) same each
+pub grouped-stable : (xs ys : List HashedNode) → IsPermutation xs ys → IsStableByKey (λ (h : HashedNode). h.hash) text_cmp xs ys → groups_by_hash (map node_hash ys) ≡ groups_by_hash (map node_hash xs)
+grouped-stable xs ys moved stable = grouped-alike (map node_hash ys) (map node_hash xs) same each
   where
     node_with : List ℕ → HashedNode
     node_with t = record { hash = t; node = 0 }
@@ -178,20 +178,20 @@ grouped-stable xs ys moved stable = grouped-alike (map hashed_in ys) (map hashed
     tied : (t : List ℕ) (zs : List HashedNode) → filter (ties (λ (x y : HashedNode). is_lt (text_cmp x.hash y.hash)) (node_with t)) zs ≡ filter (λ (h : HashedNode). bytes_eq h.hash t) zs
     tied t zs = filter-alike _ _ zs (λ (h : HashedNode). ties-same t h.hash)
 
-    each : (t : List ℕ) → with_hash t (map hashed_in ys) ≡ with_hash t (map hashed_in xs)
-    each t = with-kept t ys ∙ ap (map hashed_in) (sym (tied t ys) ∙ stable (node_with t) ∙ tied t xs) ∙ sym (with-kept t xs)
+    each : (t : List ℕ) → with_hash t (map node_hash ys) ≡ with_hash t (map node_hash xs)
+    each t = with-kept t ys ∙ ap (map node_hash) (sym (tied t ys) ∙ stable (node_with t) ∙ tied t xs) ∙ sym (with-kept t xs)
 
-    moved_hashes : IsPermutation (hashes (map hashed_in xs)) (hashes (map hashed_in ys))
-    moved_hashes = IsPermutation-map (λ (h : Hashed ℕ). h.hash) (map hashed_in xs) (map hashed_in ys) (IsPermutation-map hashed_in xs ys moved)
+    moved_hashes : IsPermutation (hashes (map node_hash xs)) (hashes (map node_hash ys))
+    moved_hashes = IsPermutation-map (λ (h : NodeHash ℕ). h.hash) (map node_hash xs) (map node_hash ys) (IsPermutation-map node_hash xs ys moved)
 
-    same : SameElements (hashes (map hashed_in ys)) (hashes (map hashed_in xs))
+    same : SameElements (hashes (map node_hash ys)) (hashes (map node_hash xs))
     same t = (Contains-permutation _ _ t (IsPermutation-sym _ _ moved_hashes), Contains-permutation _ _ t moved_hashes)
 
 all-from : {X : Type 0} (P : X → Type 0) (xs : List X) (d : X) → ((i : ℕ) → i < length xs → P (get_or xs i d)) → AllByRecursion P xs
 all-from P [] d each = tt
 all-from P (x ∷ xs) d each = (each 0 (omega arith), all-from P xs d (λ i in'. each (suc i) (omega arith)))
 
-all-kept : (P : Hashed ℕ → Type 0) (xs : List HashedNode) → AllByRecursion (λ (h : HashedNode). P (hashed_in h)) xs → AllByRecursion P (map hashed_in xs)
+all-kept : (P : NodeHash ℕ → Type 0) (xs : List HashedNode) → AllByRecursion (λ (h : HashedNode). P (node_hash h)) xs → AllByRecursion P (map node_hash xs)
 all-kept P [] all = tt
 all-kept P (x ∷ xs) all = (all.0, all-kept P xs all.1)
 
@@ -200,7 +200,7 @@ get_or-any [] k d e in' = absurd (omega arith)
 get_or-any (x ∷ xs) zero d e in' = refl
 get_or-any (x ∷ xs) (suc k) d e in' = get_or-any xs k d e (omega arith)
 
-pub grouped-next : (ys : List HashedNode) (k : ℕ) (h d : HashedNode) → k < length ys → h ≡ get_or ys k d → IsSortedByKey (λ (x : HashedNode). x.hash) text_cmp ys → added (grouped (map hashed_in (take k ys))) (hashed_in h) ≡ grouped (map hashed_in (take (k + 1) ys))
+pub grouped-next : (ys : List HashedNode) (k : ℕ) (h d : HashedNode) → k < length ys → h ≡ get_or ys k d → IsSortedByKey (λ (x : HashedNode). x.hash) text_cmp ys → add_to_groups (groups_by_hash (map node_hash (take k ys))) (node_hash h) ≡ groups_by_hash (map node_hash (take (k + 1) ys))
 grouped-next ys k h d in' at up =
     let is : h ≡ get_or ys k h = at ∙ get_or-any ys k d h in' in
     let len : length (take k ys) ≡ k = length-take-le k ys (omega arith) in
@@ -210,6 +210,6 @@ grouped-next ys k h d in' at up =
     let apart : is_lt (text_cmp (get_or ys k h).hash (get_or ys i h).hash) ≡ false = sorted_far (λ (x y : HashedNode). is_lt (text_cmp x.hash y.hash)) (ranks_by nat_list_cmp_total (λ (x : HashedNode). x.hash)) ys up i k h (omega arith) in' in
     let upto = upto_if (get_or ys i h).hash (get_or ys k h).hash apart in
     subst (λ (x : HashedNode). is_upto (get_or (take k ys) i h).hash x.hash ≡ true) (sym is) (subst (λ (x : HashedNode). is_upto x.hash (get_or ys k h).hash ≡ true) (sym seen) upto) in
-    let all = all-kept (λ (d : Hashed ℕ). is_upto d.hash h.hash ≡ true) (take k ys) (all-from (λ (x : HashedNode). is_upto x.hash h.hash ≡ true) (take k ys) h far) in
+    let all = all-kept (λ (d : NodeHash ℕ). is_upto d.hash h.hash ≡ true) (take k ys) (all-from (λ (x : HashedNode). is_upto x.hash h.hash ≡ true) (take k ys) h far) in
     let longer : take (k + 1) ys ≡ take k ys ++ h ∷ [] = rw add-one (take-suc ys k h in' ∙ ap (λ x. take k ys ++ x ∷ []) (sym is)) in
-    grouped-push (map hashed_in (take k ys)) (hashed_in h) all ∙ ap grouped (sym (ap (map hashed_in) longer ∙ map-append hashed_in (take k ys) (h ∷ [])))
+    grouped-push (map node_hash (take k ys)) (node_hash h) all ∙ ap groups_by_hash (sym (ap (map node_hash) longer ∙ map-append node_hash (take k ys) (h ∷ [])))

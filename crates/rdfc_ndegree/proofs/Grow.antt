@@ -5,8 +5,8 @@ use Rattle.std.specs.List.{AllZip}
 use Rattle.rdfc_ndegree.specs.Nodes.{Nodes}
 use Rattle.rdfc_ndegree.specs.Issuers.{has, issue}
 use Rattle.rdfc_ndegree.specs.Groups.{Group, related_groups}
-use Rattle.rdfc_ndegree.specs.NDegree.{Outcome, Trail, Choice, Calls, named, named_all, first_path, newly_named, entry, Nested, Evaluates, IsChoice, InGroups, IsCall, IsNDegreeWithin, IsNDegree}
-pub use Rattle.rdfc_ndegree.specs.Lack.{Grows}
+use Rattle.rdfc_ndegree.specs.NDegree.{Outcome, Trail, Choice, Calls, issue_temporary, issuer_copy, first_path, recursion_list, path_part, Nested, Evaluates, IsChoice, InGroups, IsCall, IsNDegreeWithin, IsNDegree}
+pub use Rattle.rdfc_ndegree.proofs.Lack.{Grows}
 use Rattle.rdfc_ndegree.proofs.Basics.{AllZip-from_right, AllZip-weaker, has-append_left}
 
 -- each call over `calls` gives an issuer that has grown; what `fewer` may give `more` may give
@@ -28,21 +28,21 @@ module _ {B : Type 0} (v : Nodes B) where
   pub Grows-issue : (i : List B) (m : B) → Grows v i (issue v i m)
   Grows-issue i m = λ x e. cond_both (has v i m) i (i ++ m ∷ []) (λ j. has v j x ≡ true) (λ _. e) (λ _. has-append_left v i (m ∷ []) x e)
 
-  pub Grows-named : (c i : List B) (m : B) → Grows v i (named v c i m)
+  pub Grows-named : (c i : List B) (m : B) → Grows v i (issue_temporary v c i m)
   Grows-named c i m = λ x e. cond_both (has v c m) i (issue v i m) (λ j. has v j x ≡ true) (λ _. e) (λ _. Grows-issue i m x e)
 
-  pub Grows-named_all : (c i p : List B) → Grows v i (named_all v c i p)
+  pub Grows-named_all : (c i p : List B) → Grows v i (issuer_copy v c i p)
   Grows-named_all c i [] = λ x e. e
-  Grows-named_all c i (m ∷ ms) = λ x e. Grows-named_all c (named v c i m) ms x (Grows-named c i m x e)
+  Grows-named_all c i (m ∷ ms) = λ x e. Grows-named_all c (issue_temporary v c i m) ms x (Grows-named c i m x e)
 
   pub Nested-grows_if : (calls : Calls B) → CallsGrow v calls → (i : List B) (path : List ℕ) (ms : List B) (t : Trail B) → Nested v calls i path ms t → Grows v i t.issuer
   Nested-grows_if calls g i path [] t d = λ x e. subst (λ (u : Trail B). has v u.issuer x ≡ true) (sym d) e
   Nested-grows_if calls g i path (m ∷ ms) t d = λ x e.
       subst (λ (u : Trail B). has v u.issuer x ≡ true) (sym d.is)
-      (Nested-grows_if calls g d.outcome.issuer (path ++ entry v i m d.outcome.hash) ms d.rest d.goes_on x (g m i d.outcome d.called x e))
+      (Nested-grows_if calls g d.outcome.issuer (path ++ path_part v i m d.outcome.hash) ms d.rest d.goes_on x (g m i d.outcome d.called x e))
 
   pub Evaluates-grows_if : (calls : Calls B) → CallsGrow v calls → (c i p : List B) (t : Trail B) → Evaluates v calls c i p t → Grows v i t.issuer
-  Evaluates-grows_if calls g c i p t d = λ x e. Nested-grows_if calls g (named_all v c i p) (first_path v c i p) (newly_named v c i p) t d x (Grows-named_all c i p x e)
+  Evaluates-grows_if calls g c i p t d = λ x e. Nested-grows_if calls g (issuer_copy v c i p) (first_path v c i p) (recursion_list v c i p) t d x (Grows-named_all c i p x e)
 
   pub IsChoice-grows_if : (calls : Calls B) → CallsGrow v calls → (c i members : List B) (o : Choice B) → IsChoice (Evaluates v calls c i) members o → Grows v i o.issuer
   IsChoice-grows_if calls g c i members o d = λ x e.
@@ -87,12 +87,12 @@ module _ {B : Type 0} (v : Nodes B) where
     outcome = d.outcome;
     rest = d.rest;
     called = a m i d.outcome d.called;
-    goes_on = Nested-more fewer more a d.outcome.issuer (path ++ entry v i m d.outcome.hash) ms d.rest d.goes_on;
+    goes_on = Nested-more fewer more a d.outcome.issuer (path ++ path_part v i m d.outcome.hash) ms d.rest d.goes_on;
     is = d.is;
   }
 
   pub Evaluates-more : (fewer more : Calls B) → AreAmong fewer more → (c i p : List B) (t : Trail B) → Evaluates v fewer c i p t → Evaluates v more c i p t
-  Evaluates-more fewer more a c i p t d = Nested-more fewer more a (named_all v c i p) (first_path v c i p) (newly_named v c i p) t d
+  Evaluates-more fewer more a c i p t d = Nested-more fewer more a (issuer_copy v c i p) (first_path v c i p) (recursion_list v c i p) t d
 
   pub IsChoice-more : (fewer more : Calls B) → AreAmong fewer more → (c i members : List B) (x : Choice B) → IsChoice (Evaluates v fewer c i) members x → IsChoice (Evaluates v more c i) members x
   IsChoice-more fewer more a c i members x d = record {
@@ -143,13 +143,13 @@ module _ {B : Type 0} (v : Nodes B) (c : List B) where
   fold_nested : (i : List B) (path : List ℕ) (ms : List B) (t : Trail B) → Nested v (IsNDegree v c) i path ms t → (k : ℕ) × Nested v (IsNDegreeWithin v c k) i path ms t
   fold_nested i path [] t d = (0, d)
   fold_nested i path (m ∷ ms) t d =
-      let later = fold_nested d.outcome.issuer (path ++ entry v i m d.outcome.hash) ms d.rest d.goes_on in (
+      let later = fold_nested d.outcome.issuer (path ++ path_part v i m d.outcome.hash) ms d.rest d.goes_on in (
         d.called.within + later.0,
         record {
           outcome = d.outcome;
           rest = d.rest;
           called = up_left d.called.within later.0 m i d.outcome d.called.call;
-          goes_on = Nested-more v (IsNDegreeWithin v c later.0) (IsNDegreeWithin v c (d.called.within + later.0)) (up_right d.called.within later.0) d.outcome.issuer (path ++ entry v i m d.outcome.hash) ms d.rest later.1;
+          goes_on = Nested-more v (IsNDegreeWithin v c later.0) (IsNDegreeWithin v c (d.called.within + later.0)) (up_right d.called.within later.0) d.outcome.issuer (path ++ path_part v i m d.outcome.hash) ms d.rest later.1;
           is = d.is;
         },
       )
@@ -159,7 +159,7 @@ module _ {B : Type 0} (v : Nodes B) (c : List B) where
   fold_all i [] (t ∷ ts) z = absurd z
   fold_all i (p ∷ ps) [] z = absurd z
   fold_all i (p ∷ ps) (t ∷ ts) z =
-      let first = fold_nested (named_all v c i p) (first_path v c i p) (newly_named v c i p) t z.0 in
+      let first = fold_nested (issuer_copy v c i p) (first_path v c i p) (recursion_list v c i p) t z.0 in
       let later = fold_all i ps ts z.1 in (
         first.0 + later.0,
         (

@@ -7,9 +7,10 @@ use Rattle.std.proofs.lemmas.Option.{slice_get_within, get_or_from_slice_get}
 use Rattle.std.proofs.lemmas.List.Elements.{recursion_from_All, All-from_recursion}
 use Rattle.digest_mac.specs.Digests.{sha256_digits}
 use Rattle.rdfc_ndegree.specs.Nodes.{Occurrence}
-use Rattle.rdfc_ndegree.specs.Groups.{Hashed, Group, place_text, known_as, related_hash, hashed_related, grouped, related_groups}
-use Rattle.rdfc_ndegree.specs.Table.{occurrence_of, position_of, related_in_row, table_nodes, IsClosed}
-use Rattle.rdfc_ndegree.specs.Kept.{hashed_in, group_in}
+use Rattle.rdfc_ndegree.specs.Groups.{NodeHash, Group, position_text, identifier_or_hash, related_hash, with_related_hash, groups_by_hash, related_groups}
+use Rattle.rdfc_ndegree.specs.Table.{occurrence_of, related_in_row, table_nodes, IsClosed}
+use Rattle.rdfc_ndegree.specs.Internal.Grouping.{node_hash}
+use Rattle.rdfc_ndegree.specs.Table.{group_in}
 use Rattle.rdfc_ndegree.specs.declared.related.HashedNode.{HashedNode}
 use Rattle.rdfc_ndegree.specs.declared.related.NodeGroup.{NodeGroup}
 use Rattle.rdfc_ndegree.specs.declared.table.NodeRow.{NodeRow}
@@ -17,43 +18,43 @@ use Rattle.rdfc_ndegree.specs.declared.table.Related.{Related}
 use Rattle.rdfc_ndegree.proofs.Grouping.{grouped-all}
 
 module _ (rows : List NodeRow) (c i : List ℕ) where
-  abbrev with_hashes : List (Occurrence ℕ) → List (Hashed ℕ)
-  with_hashes os = map (hashed_related (table_nodes rows) c i) os
+  abbrev with_hashes : List (Occurrence ℕ) → List (NodeHash ℕ)
+  with_hashes os = map (with_related_hash (table_nodes rows) c i) os
 
-  pub hash-made : (r : Related) (hash seen text place fresh : List ℕ) → hash ≡ sha256_digits seen → seen ≡ text → text ≡ place ++ known_as (table_nodes rows) c i r.node → place ≡ fresh ++ place_text (position_of r.place) r.predicate → fresh ≡ []
+  pub hash-made : (r : Related) (hash seen text place fresh : List ℕ) → hash ≡ sha256_digits seen → seen ≡ text → text ≡ place ++ identifier_or_hash (table_nodes rows) c i r.node → place ≡ fresh ++ position_text r.position r.predicate → fresh ≡ []
       → hash ≡ related_hash (table_nodes rows) c i (occurrence_of r)
   unfolding table_nodes
   hash-made r hash seen text place fresh digest same whole front empty =
-      digest ∙ ap sha256_digits (same ∙ whole ∙ ap (λ p. p ++ known_as (table_nodes rows) c i r.node) (front ∙ ap (λ f. f ++ place_text (position_of r.place) r.predicate) empty))
+      digest ∙ ap sha256_digits (same ∙ whole ∙ ap (λ p. p ++ identifier_or_hash (table_nodes rows) c i r.node) (front ∙ ap (λ f. f ++ position_text r.position r.predicate) empty))
 
   pub hashed-next : (rs : List Related) (k : ℕ) (r : Related) (hs new : List HashedNode) (hash : List ℕ) → k < length rs → r ≡ get_or rs k r
-      → map hashed_in hs ≡ map (hashed_related (table_nodes rows) c i) (map occurrence_of (take k rs)) → new ≡ hs ++ record { hash = hash; node = r.node } ∷ [] → hash ≡ related_hash (table_nodes rows) c i (occurrence_of r)
-      → map hashed_in new ≡ map (hashed_related (table_nodes rows) c i) (map occurrence_of (take (k + 1) rs))
+      → map node_hash hs ≡ map (with_related_hash (table_nodes rows) c i) (map occurrence_of (take k rs)) → new ≡ hs ++ record { hash = hash; node = r.node } ∷ [] → hash ≡ related_hash (table_nodes rows) c i (occurrence_of r)
+      → map node_hash new ≡ map (with_related_hash (table_nodes rows) c i) (map occurrence_of (take (k + 1) rs))
   hashed-next rs k r hs new hash in' is so_far push made =
       let next : HashedNode = record { hash = hash; node = r.node } in
-      let one : hashed_in next ≡ hashed_related (table_nodes rows) c i (occurrence_of r) = λ j. record { hash = made j; node = r.node } in
+      let one : node_hash next ≡ with_related_hash (table_nodes rows) c i (occurrence_of r) = λ j. record { hash = made j; node = r.node } in
       let longer : take (k + 1) rs ≡ take k rs ++ r ∷ [] = rw add-one (take-suc rs k r in' ∙ ap (λ x. take k rs ++ x ∷ []) (sym is)) in
-      ap (map hashed_in) push ∙ map-append hashed_in hs (next ∷ []) ∙ (λ j. so_far j ++ one j ∷ [])
-      ∙ sym (ap (λ ts. with_hashes (map occurrence_of ts)) longer ∙ ap with_hashes (map-append occurrence_of (take k rs) (r ∷ [])) ∙ map-append (hashed_related (table_nodes rows) c i) (map occurrence_of (take k rs)) (occurrence_of r ∷ []))
+      ap (map node_hash) push ∙ map-append node_hash hs (next ∷ []) ∙ (λ j. so_far j ++ one j ∷ [])
+      ∙ sym (ap (λ ts. with_hashes (map occurrence_of ts)) longer ∙ ap with_hashes (map-append occurrence_of (take k rs) (r ∷ [])) ∙ map-append (with_related_hash (table_nodes rows) c i) (map occurrence_of (take k rs)) (occurrence_of r ∷ []))
 
-  pub groups-of_row : (n : ℕ) (row : NodeRow) → Some row ≡ slice_get rows n → grouped (map (hashed_related (table_nodes rows) c i) (map occurrence_of row.related)) ≡ related_groups (table_nodes rows) c i n
+  pub groups-of_row : (n : ℕ) (row : NodeRow) → Some row ≡ slice_get rows n → groups_by_hash (map (with_related_hash (table_nodes rows) c i) (map occurrence_of row.related)) ≡ related_groups (table_nodes rows) c i n
   unfolding table_nodes
-  groups-of_row n row is = ap (λ o. grouped (with_hashes (related_in_row o))) is
+  groups-of_row n row is = ap (λ o. groups_by_hash (with_hashes (related_in_row o))) is
 
   pub groups-of_none : (n : ℕ) → None ≡ slice_get rows n → [] ≡ related_groups (table_nodes rows) c i n
   unfolding table_nodes
-  groups-of_none n is = ap (λ o. grouped (with_hashes (related_in_row o))) is
+  groups-of_none n is = ap (λ o. groups_by_hash (with_hashes (related_in_row o))) is
 
   -- ---- the members are rows
 
   abbrev Listed : ℕ → Type 0
   Listed m = m < length rows
 
-  nodes-listed : (rs : List Related) → AllByRecursion (λ (r : Related). r.node < length rows) rs → AllByRecursion (λ (h : Hashed ℕ). Listed h.node) (with_hashes (map occurrence_of rs))
+  nodes-listed : (rs : List Related) → AllByRecursion (λ (r : Related). r.node < length rows) rs → AllByRecursion (λ (h : NodeHash ℕ). Listed h.node) (with_hashes (map occurrence_of rs))
   nodes-listed [] all = tt
   nodes-listed (r ∷ rs) all = (all.0, nodes-listed rs all.1)
 
-  row-listed : (n : ℕ) (o : Option NodeRow) → IsClosed rows → slice_get rows n ≡ o → AllByRecursion (λ (h : Hashed ℕ). Listed h.node) (with_hashes (related_in_row o))
+  row-listed : (n : ℕ) (o : Option NodeRow) → IsClosed rows → slice_get rows n ≡ o → AllByRecursion (λ (h : NodeHash ℕ). Listed h.node) (with_hashes (related_in_row o))
   row-listed n None closed is = tt
   row-listed n (Some row) closed is =
       let in' : n < length rows = slice_get_within rows n row is in

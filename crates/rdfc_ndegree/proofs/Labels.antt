@@ -11,12 +11,13 @@ use Rattle.base_types.specs.Sets.{AllDiffer}
 use Rattle.base_types.proofs.Lists.{Contains-here, Contains-there, Contains-cons_cases, Contains-nil, Contains-map, Contains-from_map, AllDiffer-strictly_sorted}
 use Rattle.base_types.proofs.Rising.{rising-rises}
 use Rattle.nquads.proofs.ReadingElements.{AllDiffer-nil, AllDiffer-cons, AllDiffer-head, AllDiffer-tail}
-use Rattle.rdfc_ndegree.specs.Nodes.{Nodes, AreNodes}
+use Rattle.rdfc_ndegree.specs.Nodes.{Nodes}
+use Rattle.rdfc_ndegree.specs.Internal.Nodes.{AreNodes}
 use Rattle.rdfc_ndegree.specs.Issuers.{has, issue}
-use Rattle.rdfc_ndegree.specs.Groups.{Hashed, Group, group_of, related_groups}
-use Rattle.rdfc_ndegree.specs.NDegree.{Outcome, Trail, Choice, Calls, named, named_all, first_path, newly_named, entry, Nested, Evaluates, IsChoice, InGroups, IsNDegreeWithin, IsNDegree}
-use Rattle.rdfc_ndegree.specs.Run.{hashed_first, first_groups, if_alone, alone, lacking, take_issuer, take_issuers, Result, Rounds, IsRun}
-use Rattle.rdfc_ndegree.specs.Lack.{Grows, AreListed}
+use Rattle.rdfc_ndegree.specs.Groups.{NodeHash, Group, group_of, related_groups}
+use Rattle.rdfc_ndegree.specs.NDegree.{Outcome, Trail, Choice, Calls, issue_temporary, issuer_copy, first_path, recursion_list, path_part, Nested, Evaluates, IsChoice, InGroups, IsNDegreeWithin, IsNDegree}
+use Rattle.rdfc_ndegree.specs.Run.{with_first_hash, first_groups, if_alone, alone, lacking, take_issuer, take_issuers, RunOutcome, Rounds, IsRun}
+use Rattle.rdfc_ndegree.proofs.Lack.{Grows, AreListed}
 use Rattle.rdfc_ndegree.proofs.Basics.{Contains-filter, AllDiffer-append, AllZip-from_right, AllZip-from_left, same-itself, Contains-from_has, has-from_contains, has-issue, Contains-issue_cases, group_of-member, member-group_of, grouped-has}
 use Rattle.rdfc_ndegree.proofs.Grow.{Grows-issue, IsNDegree-grows}
 use Rattle.rdfc_ndegree.proofs.Exists.{newly_named-member, groups-listed, first_groups-listed, lacking-listed}
@@ -30,17 +31,17 @@ module _ {B : Type 0} {v : Nodes B} (laws : AreNodes v) where
   pub AreListed-issue : (i : List B) (n : B) → Contains v.all n → AreListed v i → AreListed v (issue v i n)
   AreListed-issue i n listed h = λ x k. ⊎_elim (h x) (λ e. subst (Contains v.all) e listed) (Contains-issue_cases v i n x k)
 
-  pub AreListed-named_all : (c i p : List B) → AreListed v p → AreListed v i → AreListed v (named_all v c i p)
+  pub AreListed-named_all : (c i p : List B) → AreListed v p → AreListed v i → AreListed v (issuer_copy v c i p)
   AreListed-named_all c i [] l h = h
   AreListed-named_all c i (m ∷ ms) l h =
-      AreListed-named_all c (named v c i m) ms (λ x k. l x (Contains-there m ms x k))
+      AreListed-named_all c (issue_temporary v c i m) ms (λ x k. l x (Contains-there m ms x k))
       (cond_both (has v c m) i (issue v i m) (AreListed v) (λ _. h) (λ _. AreListed-issue i m (l m (Contains-here m ms)) h))
 
   nested_lists : (calls : Calls B) → CallsList v calls → (i : List B) (path : List ℕ) (ms : List B) (t : Trail B) → AreListed v ms → AreListed v i → Nested v calls i path ms t → AreListed v t.issuer
   nested_lists calls g i path [] t l h d = subst (λ (u : Trail B). AreListed v u.issuer) (sym d) h
   nested_lists calls g i path (m ∷ ms) t l h d =
       subst (λ (u : Trail B). AreListed v u.issuer) (sym d.is)
-      (nested_lists calls g d.outcome.issuer (path ++ entry v i m d.outcome.hash) ms d.rest (λ x k. l x (Contains-there m ms x k)) (g m i d.outcome (l m (Contains-here m ms)) h d.called) d.goes_on)
+      (nested_lists calls g d.outcome.issuer (path ++ path_part v i m d.outcome.hash) ms d.rest (λ x k. l x (Contains-there m ms x k)) (g m i d.outcome (l m (Contains-here m ms)) h d.called) d.goes_on)
 
   choice_lists : (calls : Calls B) → CallsList v calls → (c i members : List B) (x : Choice B) → AreListed v members → AreListed v i → IsChoice (Evaluates v calls c i) members x → AreListed v x.issuer
   choice_lists calls g c i members x l h d =
@@ -48,7 +49,7 @@ module _ {B : Type 0} {v : Nodes B} (laws : AreNodes v) where
       let p : List B = found.0 in
       let among : AreListed v p = λ m k. l m (Contains-permutation p members m (IsPermutation-sym members p ((d.all.exact p).0 found.1)) k) in
       subst (λ (u : Choice B). AreListed v u.issuer) (sym d.is)
-      (nested_lists calls g (named_all v c i p) (first_path v c i p) (newly_named v c i p) d.best (λ m k. among m (newly_named-member v c i p m k)) (AreListed-named_all c i p among h) found.2)
+      (nested_lists calls g (issuer_copy v c i p) (first_path v c i p) (recursion_list v c i p) d.best (λ m k. among m (newly_named-member v c i p m k)) (AreListed-named_all c i p among h) found.2)
 
   groups_list : (calls : Calls B) → CallsList v calls → (c : List B) (text : List ℕ) (i : List B) (gs : List (Group B)) (o : Outcome B) → ((g : Group B) → Contains gs g → AreListed v g.members) → AreListed v i → InGroups v calls c text i gs o → AreListed v o.issuer
   groups_list calls g c text i [] o l h d = subst (λ (u : Outcome B). AreListed v u.issuer) (sym d) h
@@ -115,15 +116,15 @@ module _ {B : Type 0} {v : Nodes B} (laws : AreNodes v) where
 -- ---- the rounds
 
 module _ {B : Type 0} {v : Nodes B} (laws : AreNodes v) where
-  pub Rounds-differ : (c : List B) (gs : List (Group B)) (r : Result B) → Rounds v c gs r → AllDiffer c → AllDiffer r.issuer
-  Rounds-differ c [] r d a = subst (λ (s : Result B). AllDiffer s.issuer) (sym d) a
+  pub Rounds-differ : (c : List B) (gs : List (Group B)) (r : RunOutcome B) → Rounds v c gs r → AllDiffer c → AllDiffer r.issuer
+  Rounds-differ c [] r d a = subst (λ (s : RunOutcome B). AllDiffer s.issuer) (sym d) a
   Rounds-differ c (g ∷ gs) r d a =
-      subst (λ (s : Result B). AllDiffer s.issuer) (sym d.is) (Rounds-differ (take_issuers v c d.sorted) gs d.rest d.goes_on (take_issuers-differ laws c d.sorted a))
+      subst (λ (s : RunOutcome B). AllDiffer s.issuer) (sym d.is) (Rounds-differ (take_issuers v c d.sorted) gs d.rest d.goes_on (take_issuers-differ laws c d.sorted a))
 
-  pub Rounds-grow : (c : List B) (gs : List (Group B)) (r : Result B) → Rounds v c gs r → Grows v c r.issuer
-  Rounds-grow c [] r d = λ x e. subst (λ (s : Result B). has v s.issuer x ≡ true) (sym d) e
+  pub Rounds-grow : (c : List B) (gs : List (Group B)) (r : RunOutcome B) → Rounds v c gs r → Grows v c r.issuer
+  Rounds-grow c [] r d = λ x e. subst (λ (s : RunOutcome B). has v s.issuer x ≡ true) (sym d) e
   Rounds-grow c (g ∷ gs) r d = λ x e.
-      subst (λ (s : Result B). has v s.issuer x ≡ true) (sym d.is) (Rounds-grow (take_issuers v c d.sorted) gs d.rest d.goes_on x (take_issuers-grow laws c d.sorted x e))
+      subst (λ (s : RunOutcome B). has v s.issuer x ≡ true) (sym d.is) (Rounds-grow (take_issuers v c d.sorted) gs d.rest d.goes_on x (take_issuers-grow laws c d.sorted x e))
 
   round_names : (c members : List B) (outcomes sorted : List (Outcome B)) (n : B) → AllZip (λ m o. IsNDegree v c m (m ∷ []) o) (lacking v c members) outcomes → IsPermutation outcomes sorted → Contains members n → has v (take_issuers v c sorted) n ≡ true
   round_names c members outcomes sorted n z p k = go (has v c n) refl
@@ -132,27 +133,27 @@ module _ {B : Type 0} {v : Nodes B} (laws : AreNodes v) where
       go true e = take_issuers-grow laws c sorted n e
       go false e =
           let found = AllZip-from_left (λ m o. IsNDegree v c m (m ∷ []) o) (lacking v c members) outcomes n z (Contains-filter (λ m. not (has v c m)) members n k (ap not e)) in
-          let named : has v found.0.issuer n ≡ true = IsNDegree-grows v c n (n ∷ []) found.0 found.2 n (or_left (v.same n n) false (same-itself v laws n)) in
-          take_issuers-has laws c sorted found.0 n (Contains-permutation outcomes sorted found.0 p found.1) named
+          let issue_temporary : has v found.0.issuer n ≡ true = IsNDegree-grows v c n (n ∷ []) found.0 found.2 n (or_left (v.same n n) false (same-itself v laws n)) in
+          take_issuers-has laws c sorted found.0 n (Contains-permutation outcomes sorted found.0 p found.1) issue_temporary
 
-  pub Rounds-name : (c : List B) (gs : List (Group B)) (r : Result B) (g : Group B) (n : B) → Rounds v c gs r → Contains gs g → Contains g.members n → has v r.issuer n ≡ true
+  pub Rounds-name : (c : List B) (gs : List (Group B)) (r : RunOutcome B) (g : Group B) (n : B) → Rounds v c gs r → Contains gs g → Contains g.members n → has v r.issuer n ≡ true
   Rounds-name c [] r g n d k l = absurd (Contains-nil g k)
   Rounds-name c (f ∷ fs) r g n d k l =
-      subst (λ (s : Result B). has v s.issuer n ≡ true) (sym d.is)
+      subst (λ (s : RunOutcome B). has v s.issuer n ≡ true) (sym d.is)
       (⊎_elim
       (λ e. Rounds-grow (take_issuers v c d.sorted) fs d.rest d.goes_on n (round_names c f.members d.outcomes d.sorted n d.hashed d.order (subst (λ (h : Group B). Contains h.members n) (sym e) l)))
       (λ m. Rounds-name (take_issuers v c d.sorted) fs d.rest g n d.goes_on m l)
       (Contains-cons_cases f fs g k))
 
-  pub Rounds-list : (c : List B) (gs : List (Group B)) (r : Result B) → ((g : Group B) → Contains gs g → AreListed v g.members) → Rounds v c gs r → AreListed v c → AreListed v r.issuer
-  Rounds-list c [] r l d h = subst (λ (s : Result B). AreListed v s.issuer) (sym d) h
+  pub Rounds-list : (c : List B) (gs : List (Group B)) (r : RunOutcome B) → ((g : Group B) → Contains gs g → AreListed v g.members) → Rounds v c gs r → AreListed v c → AreListed v r.issuer
+  Rounds-list c [] r l d h = subst (λ (s : RunOutcome B). AreListed v s.issuer) (sym d) h
   Rounds-list c (g ∷ gs) r l d h =
       let members : AreListed v (lacking v c g.members) = lacking-listed laws c g.members (l g (Contains-here g gs)) in
       let each : (o : Outcome B) → Contains d.sorted o → AreListed v o.issuer = λ o k.
       let found = AllZip-from_right (λ m o. IsNDegree v c m (m ∷ []) o) (lacking v c g.members) d.outcomes o d.hashed (Contains-permutation d.sorted d.outcomes o (IsPermutation-sym d.outcomes d.sorted d.order) k) in
       IsNDegree-lists laws c found.0 (found.0 ∷ []) o (members found.0 found.1)
       (λ m e. subst (Contains v.all) (⊎_elim (λ s. s) (λ none. absurd (Contains-nil m none)) (Contains-cons_cases found.0 [] m e)) (members found.0 found.1)) found.2 in
-      subst (λ (s : Result B). AreListed v s.issuer) (sym d.is)
+      subst (λ (s : RunOutcome B). AreListed v s.issuer) (sym d.is)
       (Rounds-list (take_issuers v c d.sorted) gs d.rest (λ f k. l f (Contains-there g gs f k)) d.goes_on (take_issuers-listed laws c d.sorted each h))
 
 -- ---- the nodes with a hash of their own
@@ -175,31 +176,31 @@ alone-member (g ∷ gs) x k =
     (Contains-append_cases (if_alone g.members) (alone gs) x k)
 
 module _ {B : Type 0} (v : Nodes B) where
-  first_is : (hash : List ℕ) (x : B) → Contains (group_of (map (hashed_first v) v.all) hash).members x → v.first x ≡ hash
+  first_is : (hash : List ℕ) (x : B) → Contains (group_of (map (with_first_hash v) v.all) hash).members x → v.first x ≡ hash
   first_is hash x k =
-      let h = group_of-member (map (hashed_first v) v.all) hash x k in
-      let found = Contains-from_map (hashed_first v) v.all h.of h.within in
-      let node : found.0 ≡ x = ap (λ (z : Hashed B). z.node) found.2 ∙ h.node_is in
-      let first : v.first found.0 ≡ hash = ap (λ (z : Hashed B). z.hash) found.2 ∙ h.hash_is in
+      let h = group_of-member (map (with_first_hash v) v.all) hash x k in
+      let found = Contains-from_map (with_first_hash v) v.all h.of h.within in
+      let node : found.0 ≡ x = ap (λ (z : NodeHash B). z.node) found.2 ∙ h.node_is in
+      let first : v.first found.0 ≡ hash = ap (λ (z : NodeHash B). z.hash) found.2 ∙ h.hash_is in
       subst (λ z. v.first z ≡ hash) node first
 
-  alone_differ : (hashes : List (List ℕ)) → AllDiffer hashes → AllDiffer (alone (map (group_of (map (hashed_first v) v.all)) hashes))
+  alone_differ : (hashes : List (List ℕ)) → AllDiffer hashes → AllDiffer (alone (map (group_of (map (with_first_hash v) v.all)) hashes))
   alone_differ [] d = AllDiffer-nil
   alone_differ (h ∷ hs) d =
-      AllDiffer-append (if_alone (group_of (map (hashed_first v) v.all) h).members) (alone (map (group_of (map (hashed_first v) v.all)) hs))
-      (if_alone-differ (group_of (map (hashed_first v) v.all) h).members)
+      AllDiffer-append (if_alone (group_of (map (with_first_hash v) v.all) h).members) (alone (map (group_of (map (with_first_hash v) v.all)) hs))
+      (if_alone-differ (group_of (map (with_first_hash v) v.all) h).members)
       (alone_differ hs (AllDiffer-tail h hs d))
       (λ x k l.
-      let found = alone-member (map (group_of (map (hashed_first v) v.all)) hs) x l in
-      let later = Contains-from_map (group_of (map (hashed_first v) v.all)) hs found.0 found.1 in
-      let one : v.first x ≡ h = first_is h x (if_alone-member (group_of (map (hashed_first v) v.all) h).members x k) in
+      let found = alone-member (map (group_of (map (with_first_hash v) v.all)) hs) x l in
+      let later = Contains-from_map (group_of (map (with_first_hash v) v.all)) hs found.0 found.1 in
+      let one : v.first x ≡ h = first_is h x (if_alone-member (group_of (map (with_first_hash v) v.all) h).members x k) in
       let other : v.first x ≡ later.0 = first_is later.0 x (subst (λ (g : Group B). Contains g.members x) (sym later.2) found.2) in
       AllDiffer-head h hs d (subst (Contains hs) (sym other ∙ one) later.1))
 
   pub alone-differ : AllDiffer (alone (first_groups v))
   alone-differ =
-      alone_differ (sorted_set (map (λ (h : Hashed B). h.hash) (map (hashed_first v) v.all)))
-      (AllDiffer-strictly_sorted nat_list_cmp_total (sorted_set (map (λ (h : Hashed B). h.hash) (map (hashed_first v) v.all))) (rising-rises (map (λ (h : Hashed B). h.hash) (map (hashed_first v) v.all))))
+      alone_differ (sorted_set (map (λ (h : NodeHash B). h.hash) (map (with_first_hash v) v.all)))
+      (AllDiffer-strictly_sorted nat_list_cmp_total (sorted_set (map (λ (h : NodeHash B). h.hash) (map (with_first_hash v) v.all))) (rising-rises (map (λ (h : NodeHash B). h.hash) (map (with_first_hash v) v.all))))
 
   pub alone-listed : AreListed v (alone (first_groups v))
   alone-listed x k = let found = alone-member (first_groups v) x k in first_groups-listed v found.0 found.1 x found.2
@@ -207,16 +208,16 @@ module _ {B : Type 0} (v : Nodes B) where
 -- ---- the canonical issuer of a run
 
 module _ {B : Type 0} {v : Nodes B} (laws : AreNodes v) where
-  pub issuer-differs : (r : Result B) → IsRun v r → AllDiffer r.issuer
+  pub issuer-differs : (r : RunOutcome B) → IsRun v r → AllDiffer r.issuer
   issuer-differs r d = Rounds-differ laws (alone (first_groups v)) (first_groups v) r d.rounds (alone-differ v)
 
-  pub issuer-covers : (r : Result B) (n : B) → IsRun v r → Contains v.all n → Contains r.issuer n
+  pub issuer-covers : (r : RunOutcome B) (n : B) → IsRun v r → Contains v.all n → Contains r.issuer n
   issuer-covers r n d k =
-      let hs : List (Hashed B) = map (hashed_first v) v.all in
-      let inside : Contains (map (hashed_first v) v.all) (hashed_first v n) = Contains-map (hashed_first v) v.all n k in
+      let hs : List (NodeHash B) = map (with_first_hash v) v.all in
+      let inside : Contains (map (with_first_hash v) v.all) (with_first_hash v n) = Contains-map (with_first_hash v) v.all n k in
       Contains-from_has v laws r.issuer n
-      (Rounds-name laws (alone (first_groups v)) (first_groups v) r (group_of (map (hashed_first v) v.all) (v.first n)) n d.rounds
-      (grouped-has (map (hashed_first v) v.all) (hashed_first v n) inside) (member-group_of (map (hashed_first v) v.all) (hashed_first v n) inside))
+      (Rounds-name laws (alone (first_groups v)) (first_groups v) r (group_of (map (with_first_hash v) v.all) (v.first n)) n d.rounds
+      (grouped-has (map (with_first_hash v) v.all) (with_first_hash v n) inside) (member-group_of (map (with_first_hash v) v.all) (with_first_hash v n) inside))
 
-  pub issuer-only : (r : Result B) (n : B) → IsRun v r → Contains r.issuer n → Contains v.all n
+  pub issuer-only : (r : RunOutcome B) (n : B) → IsRun v r → Contains r.issuer n → Contains v.all n
   issuer-only r n d k = Rounds-list laws (alone (first_groups v)) (first_groups v) r (first_groups-listed v) d.rounds (alone-listed v) n k

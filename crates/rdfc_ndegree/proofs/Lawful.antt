@@ -10,7 +10,10 @@ use Rattle.nquads.specs.Spelling.{iri_text}
 use Rattle.nquads.specs.FirstDegree.{blanks, mention_set, mentions}
 use Rattle.nquads.proofs.ReadingBlanks.{same_blank-true, same_blank-itself, to_blanks_in}
 use Rattle.nquads.proofs.ReadingElements.{All-from_contains}
-use Rattle.rdfc_ndegree.specs.Nodes.{Position, as_subject, as_object, as_graph, Occurrence, AreNodes}
+use Rattle.rdfc_ndegree.specs.Nodes.{Occurrence}
+use Rattle.rdfc_ndegree.specs.Internal.Nodes.{AreNodes}
+use Rattle.rdfc_ndegree.specs.declared.table.Position.{Position}
+use Rattle.rdfc_ndegree.specs.declared.table.Position.TheVariants as position
 use Rattle.rdfc_ndegree.specs.Datasets.{occurrence, occurrences_at, occurrences_in, related_in, nodes_of}
 use Rattle.rdfc_ndegree.proofs.Basics.{Contains-from_filter, Contains-from_flat_map}
 use Rattle.rdfc_ndegree.proofs.Branching.{each_once-from, each_once-has, each_once-differ}
@@ -32,13 +35,13 @@ at_position n position predicate bs o k =
 in_statement : (n : Blank) (s : Statement) (o : Occurrence Blank) → Contains (occurrences_in n s) o → Contains (blanks_of s) o.blank
 in_statement n s o k =
     ⊎_elim
-    (λ l. Contains-append_left (blanks_of_term s.subject) (blanks_of_term s.object ++ blanks_of_graph s.graph) o.blank (at_position n as_subject (iri_text s.predicate) (blanks_of_term s.subject) o l))
+    (λ l. Contains-append_left (blanks_of_term s.subject) (blanks_of_term s.object ++ blanks_of_graph s.graph) o.blank (at_position n position.Subject (iri_text s.predicate) (blanks_of_term s.subject) o l))
     (λ l. Contains-append_right (blanks_of_term s.subject) (blanks_of_term s.object ++ blanks_of_graph s.graph) o.blank
     (⊎_elim
-    (λ m. Contains-append_left (blanks_of_term s.object) (blanks_of_graph s.graph) o.blank (at_position n as_object (iri_text s.predicate) (blanks_of_term s.object) o m))
-    (λ m. Contains-append_right (blanks_of_term s.object) (blanks_of_graph s.graph) o.blank (at_position n as_graph (iri_text s.predicate) (blanks_of_graph s.graph) o m))
-    (Contains-append_cases (occurrences_at n as_object (iri_text s.predicate) (blanks_of_term s.object)) (occurrences_at n as_graph (iri_text s.predicate) (blanks_of_graph s.graph)) o l)))
-    (Contains-append_cases (occurrences_at n as_subject (iri_text s.predicate) (blanks_of_term s.subject)) (occurrences_at n as_object (iri_text s.predicate) (blanks_of_term s.object) ++ occurrences_at n as_graph (iri_text s.predicate) (blanks_of_graph s.graph)) o k)
+    (λ m. Contains-append_left (blanks_of_term s.object) (blanks_of_graph s.graph) o.blank (at_position n position.Object (iri_text s.predicate) (blanks_of_term s.object) o m))
+    (λ m. Contains-append_right (blanks_of_term s.object) (blanks_of_graph s.graph) o.blank (at_position n position.Graph (iri_text s.predicate) (blanks_of_graph s.graph) o m))
+    (Contains-append_cases (occurrences_at n position.Object (iri_text s.predicate) (blanks_of_term s.object)) (occurrences_at n position.Graph (iri_text s.predicate) (blanks_of_graph s.graph)) o l)))
+    (Contains-append_cases (occurrences_at n position.Subject (iri_text s.predicate) (blanks_of_term s.subject)) (occurrences_at n position.Object (iri_text s.predicate) (blanks_of_term s.object) ++ occurrences_at n position.Graph (iri_text s.predicate) (blanks_of_graph s.graph)) o k)
 
 pub related_in-stands : (q : List Statement) (n : Blank) (o : Occurrence Blank) → Contains (related_in q n) o → StandsIn q o.blank
 related_in-stands q n o k =

@@ -1,5 +1,8 @@
 pub mod Basics
+pub mod Branches
 pub mod Branching
+pub mod Lack
+pub mod Progress
 pub mod Grow
 pub mod Exists
 pub mod Labels

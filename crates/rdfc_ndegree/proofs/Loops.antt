@@ -12,14 +12,14 @@ use Rattle.rdfc_ndegree.specs.declared.limits.Limits.{Limits}
 use Rattle.rdfc_ndegree.specs.declared.limits.CanonFault.{CanonFault}
 use Rattle.rdfc_ndegree.specs.declared.limits.CanonFault.TheVariants as fault
 use Rattle.rdfc_ndegree.specs.declared.related.NodeGroup.{NodeGroup}
-use Rattle.rdfc_ndegree.specs.Nodes.{AreNodes}
-use Rattle.rdfc_ndegree.specs.NDegree.{AreArrangements, named_all, first_path, newly_named, entry}
-use Rattle.rdfc_ndegree.specs.Lack.{AreListed}
+use Rattle.rdfc_ndegree.specs.Internal.Nodes.{AreNodes}
+use Rattle.rdfc_ndegree.specs.NDegree.{AreArrangements, issuer_copy, first_path, recursion_list, path_part}
+use Rattle.rdfc_ndegree.proofs.Lack.{AreListed}
 use Rattle.rdfc_ndegree.specs.Table.{table_nodes}
-use Rattle.rdfc_ndegree.specs.Kept.{group_in}
-use Rattle.rdfc_ndegree.specs.Answers.{AnswersCall, CallOver, CallDeep}
-use Rattle.rdfc_ndegree.specs.Evaluations.{AnswersTrail, TrailOver, TrailDeep, AnswersChoice, ChoiceOver, ChoiceDeep, IsFaultOf}
-use Rattle.rdfc_ndegree.specs.Progress.{Walking, Choosing, Grouping}
+use Rattle.rdfc_ndegree.specs.Table.{group_in}
+use Rattle.rdfc_ndegree.specs.Answers.{answer, AnswersCall, CallOver, CallDeep}
+use Rattle.rdfc_ndegree.specs.Internal.Evaluations.{trail_answer, choice_answer, AnswersTrail, TrailOver, TrailDeep, AnswersChoice, ChoiceOver, ChoiceDeep, IsFaultOf}
+use Rattle.rdfc_ndegree.proofs.Progress.{spending_of, Walking, Choosing, Grouping}
 use Rattle.rdfc_ndegree.proofs.Tables.{table-digest}
 use Rattle.rdfc_ndegree.proofs.Bests.{Takes}
 use Rattle.rdfc_ndegree.proofs.Rows.{unnamed, unnamed-choice, unnamed-call, unnamed-walk, groups-rows, rows-listed, All-named_all, All-newly_named}
@@ -76,14 +76,14 @@ module _ (rows : List NodeRow) (laws : AreNodes (table_nodes rows)) (c : List �
   -- ---- groups
 
   pub group-turn : (gs : List NodeGroup) (k : ℕ) (g : NodeGroup) {n : ℕ} {i text now : List ℕ} {tie : Bool} {before meter : Meter} {depth : ℕ} {path issuer : List ℕ} {tied : Bool} (next : Meter) → k < length gs → g ≡ get_or gs k g
-      → InGroupLoop rows c n i text now tie (drop k gs) before meter depth → AnswersChoice (table_nodes rows) c now g.members path issuer tied meter.spent next.spent depth meter.limits.depth
+      → InGroupLoop rows c n i text now tie (drop k gs) before meter depth → AnswersChoice (table_nodes rows) c now g.members (choice_answer path issuer tied) (spending_of meter.spent next.spent depth meter.limits.depth)
       → All (λ k. k < length rows) issuer → next.limits ≡ meter.limits → (meter.spent ≤ meter.limits.work → next.spent ≤ meter.limits.work)
       → InGroupLoop rows c n i (text ++ (g.hash ++ path)) issuer (tie || tied) (drop (k + 1) gs) before next depth
   group-turn gs k g {n = n} {i = i} {text = text} {now = now} {tie = tie} {before = before} {meter = meter} {depth = depth} {path = path} {issuer = issuer} {tied = tied} next lt is w a inside same kept =
       let here : Grouping (table_nodes rows) c n i text now tie (group_in g ∷ map group_in (drop (k + 1) gs)) before.spent meter.spent depth before.limits.depth =
       subst (λ r. Grouping (table_nodes rows) c n i text now tie (map group_in r) before.spent meter.spent depth before.limits.depth) (next_item gs k g lt is) w.grouping in
-      let b : AnswersChoice (table_nodes rows) c now g.members path issuer tied meter.spent next.spent depth before.limits.depth =
-      subst (λ (l : Limits). AnswersChoice (table_nodes rows) c now g.members path issuer tied meter.spent next.spent depth l.depth) w.counting.limits a in
+      let b : AnswersChoice (table_nodes rows) c now g.members (choice_answer path issuer tied) (spending_of meter.spent next.spent depth before.limits.depth) =
+      subst (λ (l : Limits). AnswersChoice (table_nodes rows) c now g.members (choice_answer path issuer tied) (spending_of meter.spent next.spent depth l.depth)) w.counting.limits a in
       let f : unnamed rows c issuer ≤ unnamed rows c now = unnamed-choice rows a in
       let e = w.fewer in
       record {
@@ -104,11 +104,11 @@ module _ (rows : List NodeRow) (laws : AreNodes (table_nodes rows)) (c : List �
 
   pub group-end : (gs : List NodeGroup) (k : ℕ) {n : ℕ} {i text now : List ℕ} {tie : Bool} {before meter : Meter} {depth : ℕ} (hash : List ℕ) → length gs ≤ k
       → InGroupLoop rows c n i text now tie (drop k gs) before meter depth → hash ≡ sha256_digits text
-      → AnswersCall (table_nodes rows) c n i hash now tie before.spent meter.spent depth before.limits.depth
+      → AnswersCall (table_nodes rows) c n i (answer hash now tie) (spending_of before.spent meter.spent depth before.limits.depth)
   group-end gs k {n = n} {i = i} {text = text} {now = now} {tie = tie} {before = before} {meter = meter} {depth = depth} hash past w e =
       let here : Grouping (table_nodes rows) c n i text now tie [] before.spent meter.spent depth before.limits.depth =
       subst (λ r. Grouping (table_nodes rows) c n i text now tie (map group_in r) before.spent meter.spent depth before.limits.depth) (drop_of_length-le gs past) w.grouping in
-      subst (λ h. AnswersCall (table_nodes rows) c n i h now tie before.spent meter.spent depth before.limits.depth) (ap (λ d. d text) (table-digest rows) ∙ sym e) (grouping-end (table_nodes rows) c here)
+      subst (λ h. AnswersCall (table_nodes rows) c n i (answer h now tie) (spending_of before.spent meter.spent depth before.limits.depth)) (ap (λ d. d text) (table-digest rows) ∙ sym e) (grouping-end (table_nodes rows) c here)
 
   -- ---- arrangements
 
@@ -123,7 +123,7 @@ module _ (rows : List NodeRow) (laws : AreNodes (table_nodes rows)) (c : List �
       (path' issuer' : List ℕ) (sharing' : ℕ) (ties' : List (List ℕ)) (counted next : Meter)
       → InArrangementLoop rows c i members left path issuer sharing ties before meter depth → left ≡ p ∷ rest
       → counted.limits ≡ meter.limits → counted.spent ≡ meter.spent + 1 → meter.spent < meter.limits.work
-      → AnswersTrail (table_nodes rows) c i p its_path its_issuer its_ties counted.spent next.spent depth counted.limits.depth
+      → AnswersTrail (table_nodes rows) c i p (trail_answer its_path its_issuer its_ties) (spending_of counted.spent next.spent depth counted.limits.depth)
       → next.limits ≡ counted.limits → (counted.spent ≤ counted.limits.work → next.spent ≤ counted.limits.work)
       → All (λ k. k < length rows) issuer'
       → Takes path issuer sharing ties its_path its_issuer its_ties path' issuer' sharing' ties'
@@ -131,10 +131,10 @@ module _ (rows : List NodeRow) (laws : AreNodes (table_nodes rows)) (c : List �
   arrangement-turn {i = i} {members = members} {p = p} {rest = rest} {path = path} {issuer = issuer} {sharing = sharing} {ties = ties} {before = before} {meter = meter} {depth = depth} {its_path = its_path} {its_issuer = its_issuer} {its_ties = its_ties} path' issuer' sharing' ties' counted next w e same one room a same' kept inside takes =
       let here : Choosing (table_nodes rows) c i members (p ∷ rest) path issuer sharing ties before.spent meter.spent depth before.limits.depth =
       subst (λ r. Choosing (table_nodes rows) c i members r path issuer sharing ties before.spent meter.spent depth before.limits.depth) e w.choosing in
-      let b : AnswersTrail (table_nodes rows) c i p its_path its_issuer its_ties counted.spent next.spent depth before.limits.depth =
-      subst (λ (l : Limits). AnswersTrail (table_nodes rows) c i p its_path its_issuer its_ties counted.spent next.spent depth l.depth) (same ∙ w.counting.limits) a in
-      let d : AnswersTrail (table_nodes rows) c i p its_path its_issuer its_ties (meter.spent + 1) next.spent depth before.limits.depth =
-      subst (λ s. AnswersTrail (table_nodes rows) c i p its_path its_issuer its_ties s next.spent depth before.limits.depth) one b in
+      let b : AnswersTrail (table_nodes rows) c i p (trail_answer its_path its_issuer its_ties) (spending_of counted.spent next.spent depth before.limits.depth) =
+      subst (λ (l : Limits). AnswersTrail (table_nodes rows) c i p (trail_answer its_path its_issuer its_ties) (spending_of counted.spent next.spent depth l.depth)) (same ∙ w.counting.limits) a in
+      let d : AnswersTrail (table_nodes rows) c i p (trail_answer its_path its_issuer its_ties) (spending_of (meter.spent + 1) next.spent depth before.limits.depth) =
+      subst (λ s. AnswersTrail (table_nodes rows) c i p (trail_answer its_path its_issuer its_ties) (spending_of s next.spent depth before.limits.depth)) one b in
       let f : Counting before counted = counting-turn w.counting same (λ _. omega arith) in
       record {
         counting = counting-turn f same' kept;
@@ -166,7 +166,7 @@ module _ (rows : List NodeRow) (laws : AreNodes (table_nodes rows)) (c : List �
 
   pub arrangement-end : {i members : List ℕ} {left : List (List ℕ)} {path issuer : List ℕ} {sharing : ℕ} {ties : List (List ℕ)} {before meter : Meter} {depth : ℕ} {tie : Bool}
       → InArrangementLoop rows c i members left path issuer sharing ties before meter depth → left ≡ [] → tie ≡ (nat_lt 1 sharing || list_any (λ before. starts_with ◌==◌ path before) ties)
-      → AnswersChoice (table_nodes rows) c i members path issuer tie before.spent meter.spent depth before.limits.depth
+      → AnswersChoice (table_nodes rows) c i members (choice_answer path issuer tie) (spending_of before.spent meter.spent depth before.limits.depth)
   arrangement-end {i = i} {members = members} {path = path} {issuer = issuer} {sharing = sharing} {ties = ties} {before = before} {meter = meter} {depth = depth} w e t =
       let here : Choosing (table_nodes rows) c i members [] path issuer sharing ties before.spent meter.spent depth before.limits.depth =
       subst (λ r. Choosing (table_nodes rows) c i members r path issuer sharing ties before.spent meter.spent depth before.limits.depth) e w.choosing in
@@ -175,7 +175,7 @@ module _ (rows : List NodeRow) (laws : AreNodes (table_nodes rows)) (c : List �
   -- ---- members
 
   pub member-start : (i p path issuer : List ℕ) (ties : List (List ℕ)) (ms : List ℕ) (before : Meter) (depth : ℕ) → All (λ k. k < length rows) i → All (λ k. k < length rows) p
-      → path ≡ first_path (table_nodes rows) c i p → issuer ≡ named_all (table_nodes rows) c i p → ties ≡ [] → ms ≡ newly_named (table_nodes rows) c i p → depth ≤ before.limits.depth
+      → path ≡ first_path (table_nodes rows) c i p → issuer ≡ issuer_copy (table_nodes rows) c i p → ties ≡ [] → ms ≡ recursion_list (table_nodes rows) c i p → depth ≤ before.limits.depth
       → InMemberLoop rows c i p path issuer issuer ties ms before before depth
   member-start i p path issuer ties ms before depth all each path_is issuer_is ties_is ms_is fits = record {
     counting = counting-start before;
@@ -184,27 +184,27 @@ module _ (rows : List NodeRow) (laws : AreNodes (table_nodes rows)) (c : List �
     walking = rw (path_is, issuer_is, ties_is, ms_is) (walking-start (table_nodes rows) c i p before.spent depth before.limits.depth fits);
   }
 
-  pub member-rows : (i p ms : List ℕ) → ms ≡ newly_named (table_nodes rows) c i p → All (λ k. k < length rows) p → All (λ k. k < length rows) ms
+  pub member-rows : (i p ms : List ℕ) → ms ≡ recursion_list (table_nodes rows) c i p → All (λ k. k < length rows) p → All (λ k. k < length rows) ms
   member-rows i p ms ms_is each = subst (All (λ k. k < length rows)) (sym ms_is) (All-newly_named rows (λ k. k < length rows) c i p each)
 
   pub member-less : {i p path first now : List ℕ} {ties : List (List ℕ)} {rest : List ℕ} {before meter : Meter} {depth : ℕ} (ms : List ℕ) (k : ℕ)
-      → InMemberLoop rows c i p path first now ties rest before meter depth → first ≡ named_all (table_nodes rows) c i p → ms ≡ newly_named (table_nodes rows) c i p → k < length ms → All (λ k. k < length rows) p
+      → InMemberLoop rows c i p path first now ties rest before meter depth → first ≡ issuer_copy (table_nodes rows) c i p → ms ≡ recursion_list (table_nodes rows) c i p → k < length ms → All (λ k. k < length rows) p
       → unnamed rows c now < unnamed rows c i
   member-less {i = i} {p = p} {first = first} {now = now} ms k w first_is ms_is lt each =
-      let less : unnamed rows c (named_all (table_nodes rows) c i p) < unnamed rows c i = unnamed-walk rows laws c i p each k 0 (subst (λ z. k < length z) ms_is lt) in
-      let begun : unnamed rows c first ≡ unnamed rows c (named_all (table_nodes rows) c i p) = ap (unnamed rows c) first_is in
+      let less : unnamed rows c (issuer_copy (table_nodes rows) c i p) < unnamed rows c i = unnamed-walk rows laws c i p each k 0 (subst (λ z. k < length z) ms_is lt) in
+      let begun : unnamed rows c first ≡ unnamed rows c (issuer_copy (table_nodes rows) c i p) = ap (unnamed rows c) first_is in
       let e = w.fewer in
       omega arith
 
   pub member-turn : {i p path first now : List ℕ} {ties : List (List ℕ)} {before meter : Meter} {depth : ℕ} {hash issuer : List ℕ} {tie : Bool} (ms : List ℕ) (k : ℕ) (next : Meter) → k < length ms
-      → InMemberLoop rows c i p path first now ties (drop k ms) before meter depth → AnswersCall (table_nodes rows) c (get_or ms k 0) now hash issuer tie meter.spent next.spent (depth + 1) meter.limits.depth
+      → InMemberLoop rows c i p path first now ties (drop k ms) before meter depth → AnswersCall (table_nodes rows) c (get_or ms k 0) now (answer hash issuer tie) (spending_of meter.spent next.spent (depth + 1) meter.limits.depth)
       → All (λ k. k < length rows) issuer → next.limits ≡ meter.limits → (meter.spent ≤ meter.limits.work → next.spent ≤ meter.limits.work)
-      → InMemberLoop rows c i p (path ++ entry (table_nodes rows) now (get_or ms k 0) hash) first issuer (if tie then ties ++ path ∷ [] else ties) (drop (k + 1) ms) before next depth
+      → InMemberLoop rows c i p (path ++ path_part (table_nodes rows) now (get_or ms k 0) hash) first issuer (if tie then ties ++ path ∷ [] else ties) (drop (k + 1) ms) before next depth
   member-turn {i = i} {p = p} {path = path} {first = first} {now = now} {ties = ties} {before = before} {meter = meter} {depth = depth} {hash = hash} {issuer = issuer} {tie = tie} ms k next lt w a inside same kept =
       let here : Walking (table_nodes rows) c i p path now ties (get_or ms k 0 ∷ drop (k + 1) ms) before.spent meter.spent depth before.limits.depth =
       subst (λ r. Walking (table_nodes rows) c i p path now ties r before.spent meter.spent depth before.limits.depth) (drop_more ms k 0 lt) w.walking in
-      let b : AnswersCall (table_nodes rows) c (get_or ms k 0) now hash issuer tie meter.spent next.spent (depth + 1) before.limits.depth =
-      subst (λ (l : Limits). AnswersCall (table_nodes rows) c (get_or ms k 0) now hash issuer tie meter.spent next.spent (depth + 1) l.depth) w.counting.limits a in
+      let b : AnswersCall (table_nodes rows) c (get_or ms k 0) now (answer hash issuer tie) (spending_of meter.spent next.spent (depth + 1) before.limits.depth) =
+      subst (λ (l : Limits). AnswersCall (table_nodes rows) c (get_or ms k 0) now (answer hash issuer tie) (spending_of meter.spent next.spent (depth + 1) l.depth)) w.counting.limits a in
       let f : unnamed rows c issuer ≤ unnamed rows c now = unnamed-call rows a in
       let e = w.fewer in
       record {
@@ -234,8 +234,8 @@ module _ (rows : List NodeRow) (laws : AreNodes (table_nodes rows)) (c : List �
 
   pub member-end : {i p path first now : List ℕ} {ties : List (List ℕ)} {before meter : Meter} {depth : ℕ} (ms : List ℕ) (k : ℕ) (its_path : List ℕ) → length ms ≤ k
       → InMemberLoop rows c i p path first now ties (drop k ms) before meter depth → its_path ≡ path
-      → AnswersTrail (table_nodes rows) c i p its_path now ties before.spent meter.spent depth before.limits.depth
+      → AnswersTrail (table_nodes rows) c i p (trail_answer its_path now ties) (spending_of before.spent meter.spent depth before.limits.depth)
   member-end {i = i} {p = p} {path = path} {now = now} {ties = ties} {before = before} {meter = meter} {depth = depth} ms k its_path past w e =
       let here : Walking (table_nodes rows) c i p path now ties [] before.spent meter.spent depth before.limits.depth =
       subst (λ r. Walking (table_nodes rows) c i p path now ties r before.spent meter.spent depth before.limits.depth) (drop_of_length-le ms past) w.walking in
-      subst (λ x. AnswersTrail (table_nodes rows) c i p x now ties before.spent meter.spent depth before.limits.depth) (sym e) (walking-end (table_nodes rows) c here)
+      subst (λ x. AnswersTrail (table_nodes rows) c i p (trail_answer x now ties) (spending_of before.spent meter.spent depth before.limits.depth)) (sym e) (walking-end (table_nodes rows) c here)

@@ -4,7 +4,7 @@ use Rattle.std.specs.List.{list_any, position, position_or_len}
 use Rattle.std.proofs.lemmas.Bool.Decides.{nat_tests}
 use Rattle.std.proofs.lemmas.List.{map-append}
 use Rattle.indexmap.specs.IndexSet.{insert_key}
-use Rattle.rdfc_ndegree.specs.Building.{number_among}
+use Rattle.rdfc_ndegree.specs.Table.{number_among}
 
 position-cons : {K : Type 0} (p : K → Bool) (k : K) (ks : List K) → position p (k ∷ ks) ≡ cond (p k) (Some 0) (option_map suc (position p ks))
 position-cons p k ks = go (p k) (position_or_len p ks) (length ks)

@@ -4,7 +4,7 @@ use borrow.Rule.Slice.PartMut.{put_mid}
 use Rattle.std.specs.Prelude.{slice_index, reverse}
 use Rattle.std.specs.List.{AllByRecursion, swap}
 use Rattle.std.proofs.lemmas.List.{length-drop, length-take-le, take_all, drop_all, take-append-drop, drop-drop, get_or-drop, get_or_default}
-use Rattle.rdfc_ndegree.specs.Sequences.{Falls, IsStep}
+use Rattle.rdfc_ndegree.specs.Internal.Sequences.{Falls, IsStep}
 
 drop-more : (xs : List ℕ) (k j : ℕ) → k + 1 ≡ j → k < length xs → drop k xs ≡ slice_index xs k ∷ drop j xs
 drop-more xs k j next in' = let e : j ≡ suc k = omega (arith, next) in drop-cons xs k 0 in' ∙ ap (λ n. slice_index xs k ∷ drop n xs) (sym e)

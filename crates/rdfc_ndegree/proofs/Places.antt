@@ -5,32 +5,32 @@ use Rattle.std.specs.List.{list_any}
 use Rattle.std.proofs.lemmas.Bool.Decides.{nat_tests}
 use Rattle.std.proofs.lemmas.List.{take_all}
 use Rattle.std.proofs.lemmas.List.Quantifiers.{all_pairs_push}
-use Rattle.rdfc_ndegree.specs.Kept.{number_in, place_in, kept_at, ArePlaces}
+use Rattle.rdfc_ndegree.specs.NumberIssuers.{number_in, place_in, place_at, ArePlaces}
 use Rattle.rdfc_ndegree.proofs.Tables.{place-none}
 
 -- ---- room
 
-kept-none : (k n : ℕ) → kept_at (slice_get (replicate k None) n) ≡ None
+kept-none : (k n : ℕ) → place_at (slice_get (replicate k None) n) ≡ None
 kept-none zero n = refl
 kept-none (suc k) zero = refl
 kept-none (suc k) (suc n) = kept-none k n
 
-kept-longer : (places : List (Option ℕ)) (k n : ℕ) → kept_at (slice_get (places ++ replicate k None) n) ≡ kept_at (slice_get places n)
+kept-longer : (places : List (Option ℕ)) (k n : ℕ) → place_at (slice_get (places ++ replicate k None) n) ≡ place_at (slice_get places n)
 kept-longer [] k n = kept-none k n
 kept-longer (p ∷ ps) k zero = refl
 kept-longer (p ∷ ps) k (suc n) = kept-longer ps k n
 
 -- what `resize` to more places leaves
-pub kept-resized : (old new : List (Option ℕ)) (room k n : ℕ) → new ≡ take room old ++ replicate k None → length old ≤ room → kept_at (slice_get new n) ≡ kept_at (slice_get old n)
+pub kept-resized : (old new : List (Option ℕ)) (room k n : ℕ) → new ≡ take room old ++ replicate k None → length old ≤ room → place_at (slice_get new n) ≡ place_at (slice_get old n)
 kept-resized old new room k n is fits =
     let whole : take room old ≡ old = take_all room old fits in
-    ap (λ ps. kept_at (slice_get ps n)) (is ∙ ap (λ ps. ps ++ replicate k None) whole) ∙ kept-longer old k n
+    ap (λ ps. place_at (slice_get ps n)) (is ∙ ap (λ ps. ps ++ replicate k None) whole) ∙ kept-longer old k n
 
 -- the places of an issuer that has named nothing
 pub ArePlaces-empty : (k : ℕ) → ArePlaces (replicate k None) []
 ArePlaces-empty k = record { differ = λ i j d below in'. omega arith; each = λ n. kept-none k n }
 
-pub ArePlaces-longer : (old new : List (Option ℕ)) (order : List ℕ) → ArePlaces old order → ((n : ℕ) → kept_at (slice_get new n) ≡ kept_at (slice_get old n)) → ArePlaces new order
+pub ArePlaces-longer : (old new : List (Option ℕ)) (order : List ℕ) → ArePlaces old order → ((n : ℕ) → place_at (slice_get new n) ≡ place_at (slice_get old n)) → ArePlaces new order
 ArePlaces-longer old new order a same = record { differ = a.differ; each = λ n. same n ∙ a.each n }
 
 -- ---- one more place
@@ -97,12 +97,12 @@ ArePlaces-push places order node a none in' = record {
   each = λ n. go n (node == n) refl;
 }
   where
-    go : (n : ℕ) (b : Bool) → (node == n) ≡ b → kept_at (slice_get (set places node (Some (length order))) n) ≡ place_in (order ++ node ∷ []) n
+    go : (n : ℕ) (b : Bool) → (node == n) ≡ b → place_at (slice_get (set places node (Some (length order))) n) ≡ place_in (order ++ node ∷ []) n
     go n true e =
         let same : node ≡ n = grind (arith, nat_tests) in
-        subst (λ k. kept_at (slice_get (set places node (Some (length order))) k) ≡ place_in (order ++ node ∷ []) k) same
-        (ap kept_at (get-set_same places node (Some (length order)) in') ∙ sym (place-push_same order node none))
-    go n false e = ap kept_at (get-set_other places node n (Some (length order)) e) ∙ a.each n ∙ sym (place-push_other order node n e)
+        subst (λ k. place_at (slice_get (set places node (Some (length order))) k) ≡ place_in (order ++ node ∷ []) k) same
+        (ap place_at (get-set_same places node (Some (length order)) in') ∙ sym (place-push_same order node none))
+    go n false e = ap place_at (get-set_other places node n (Some (length order)) e) ∙ a.each n ∙ sym (place-push_other order node n e)
 
 -- where no place is kept the number is not named
 pub not-named : (order seen : List ℕ) (n : ℕ) (place : Option ℕ) → order ≡ seen → place ≡ place_in seen n → is_some place ≡ false → list_any (λ m. m == n) order ≡ false

@@ -17,9 +17,11 @@ use Rattle.nquads.proofs.ReadingElements.{All-from_contains, AllDiffer-map}
 use Rattle.nquads.proofs.ReadingBlanks.{chosen, same_blank-true, same_blank-itself, same_blank-false, rename-rename, rename-itself, blanks_of-rename, to_blanks_in}
 use Rattle.nquads.proofs.ReadingRenamings.{IsDataset-rename, one_to_one-from_Same}
 use Rattle.nquads.proofs.ReadingSame.{line-rename, text_carried}
-use Rattle.rdfc_ndegree.specs.Nodes.{Position, as_subject, as_object, as_graph, Occurrence}
+use Rattle.rdfc_ndegree.specs.Nodes.{Occurrence}
+use Rattle.rdfc_ndegree.specs.declared.table.Position.{Position}
+use Rattle.rdfc_ndegree.specs.declared.table.Position.TheVariants as position
 use Rattle.rdfc_ndegree.specs.Issuers.{number, canonical_id}
-use Rattle.rdfc_ndegree.specs.Run.{Result, IsRun, MeetsTie, WorkOver, DepthOver, WithinLimits, HasLabels}
+use Rattle.rdfc_ndegree.specs.Run.{RunOutcome, IsRun, MeetsTie, WorkOver, DepthOver, WithinLimits, IsCanonicalIssuer}
 use Rattle.rdfc_ndegree.specs.Datasets.{occurrence, occurrences_at, occurrences_in, related_in, nodes_of}
 use Rattle.rdfc_ndegree.proofs.CarryBasics.{IsPermutation-filter, IsPermutation-flat_map, IsPermutation-from_elements, SameElements-permutation, Each-left, Each-right, Each-filter, Each-from_contains, Each-weaker, map-map, map-agree, filter-map, list_any-map}
 use Rattle.rdfc_ndegree.proofs.Lawful.{same_blank-equal, blanks-all, AllDiffer-blanks, related_in-stands}
@@ -115,14 +117,14 @@ module _ (f : Blank → Blank) (q : List Statement) (o : IsOneToOne f q) where
   in-renamed : (n : Blank) (s : Statement) → StandsIn q n → InPlace q s → occurrences_in (f n) (rename f s) ≡ map (carried f) (occurrences_in n s)
   in-renamed n s d h =
       let rest : AllByRecursion (StandsIn q) (blanks_of_term s.object ++ blanks_of_graph s.graph) = Each-right (StandsIn q) (blanks_of_term s.subject) (blanks_of_term s.object ++ blanks_of_graph s.graph) h in
-      let subjects : List (Occurrence Blank) = occurrences_at n as_subject (iri_text s.predicate) (blanks_of_term s.subject) in
-      let objects : List (Occurrence Blank) = occurrences_at n as_object (iri_text s.predicate) (blanks_of_term s.object) in
-      let graphs : List (Occurrence Blank) = occurrences_at n as_graph (iri_text s.predicate) (blanks_of_graph s.graph) in
+      let subjects : List (Occurrence Blank) = occurrences_at n position.Subject (iri_text s.predicate) (blanks_of_term s.subject) in
+      let objects : List (Occurrence Blank) = occurrences_at n position.Object (iri_text s.predicate) (blanks_of_term s.object) in
+      let graphs : List (Occurrence Blank) = occurrences_at n position.Graph (iri_text s.predicate) (blanks_of_graph s.graph) in
       ap₂ (λ a b. a ++ b)
-      (at-renamed n as_subject (iri_text s.predicate) (blanks_of_term s.subject) (blanks_of_term (rename_term f s.subject)) d (Each-left (StandsIn q) (blanks_of_term s.subject) (blanks_of_term s.object ++ blanks_of_graph s.graph) h) (term_blanks f s.subject))
+      (at-renamed n position.Subject (iri_text s.predicate) (blanks_of_term s.subject) (blanks_of_term (rename_term f s.subject)) d (Each-left (StandsIn q) (blanks_of_term s.subject) (blanks_of_term s.object ++ blanks_of_graph s.graph) h) (term_blanks f s.subject))
       (ap₂ (λ a b. a ++ b)
-      (at-renamed n as_object (iri_text s.predicate) (blanks_of_term s.object) (blanks_of_term (rename_term f s.object)) d (Each-left (StandsIn q) (blanks_of_term s.object) (blanks_of_graph s.graph) rest) (term_blanks f s.object))
-      (at-renamed n as_graph (iri_text s.predicate) (blanks_of_graph s.graph) (blanks_of_graph (option_map (rename_term f) s.graph)) d (Each-right (StandsIn q) (blanks_of_term s.object) (blanks_of_graph s.graph) rest) (graph_blanks f s.graph)))
+      (at-renamed n position.Object (iri_text s.predicate) (blanks_of_term s.object) (blanks_of_term (rename_term f s.object)) d (Each-left (StandsIn q) (blanks_of_term s.object) (blanks_of_graph s.graph) rest) (term_blanks f s.object))
+      (at-renamed n position.Graph (iri_text s.predicate) (blanks_of_graph s.graph) (blanks_of_graph (option_map (rename_term f) s.graph)) d (Each-right (StandsIn q) (blanks_of_term s.object) (blanks_of_graph s.graph) rest) (graph_blanks f s.graph)))
       ∙ sym (map-append (carried f) subjects (objects ++ graphs) ∙ ap (λ l. map (carried f) subjects ++ l) (map-append (carried f) objects graphs))
 
   each-renamed : (n : Blank) (ss : List Statement) → StandsIn q n → AllByRecursion (InPlace q) ss → flat_map (occurrences_in (f n)) (map (rename f) ss) ≡ map (carried f) (flat_map (occurrences_in n) ss)
@@ -181,7 +183,7 @@ module _ (digest : List ℕ → List ℕ) (f : Blank → Blank) (q r : List Stat
           let a = came_from f q r s b ((blanks-all r b).1 m) in
           subst (Contains (map f (blanks q))) a.2 (Contains-map f (blanks q) a.0 ((blanks-all q a.0).0 a.1))
 
-  pub IsRun-renamed : (x : Result Blank) → IsRun (nodes_of digest q) x → IsRun (nodes_of digest r) (result_f f x)
+  pub IsRun-renamed : (x : RunOutcome Blank) → IsRun (nodes_of digest q) x → IsRun (nodes_of digest r) (result_f f x)
   IsRun-renamed = IsRun-carried f (StandsIn q) (nodes_of digest q) (nodes_of digest r) renamed-carries renamed-all (blanks-inside q)
 
   tie_there : MeetsTie (nodes_of digest q) → MeetsTie (nodes_of digest r)
@@ -196,11 +198,11 @@ module _ (digest : List ℕ → List ℕ) (f : Blank → Blank) (q r : List Stat
   limits_here : (work depth : ℕ) → WithinLimits (nodes_of digest r) work depth → WithinLimits (nodes_of digest q) work depth
   limits_here = WithinLimits-carried f (StandsIn q) (nodes_of digest q) (nodes_of digest r) renamed-carries renamed-all (blanks-inside q)
 
-  pub HasLabels-renamed : (c : List Blank) → HasLabels (nodes_of digest q) c → HasLabels (nodes_of digest r) (map f c)
+  pub HasLabels-renamed : (c : List Blank) → IsCanonicalIssuer (nodes_of digest q) c → IsCanonicalIssuer (nodes_of digest r) (map f c)
   HasLabels-renamed = HasLabels-carried f (StandsIn q) (nodes_of digest q) (nodes_of digest r) renamed-carries renamed-all (blanks-inside q)
 
   -- the labels are of blank nodes of the dataset
-  pub labels-StandsIn : (c : List Blank) → HasLabels (nodes_of digest q) c → AllByRecursion (StandsIn q) c
+  pub labels-StandsIn : (c : List Blank) → IsCanonicalIssuer (nodes_of digest q) c → AllByRecursion (StandsIn q) c
   labels-StandsIn = HasLabels-inside f (StandsIn q) (nodes_of digest q) (nodes_of digest r) renamed-carries renamed-all (blanks-inside q)
 
   pub number-renamed : (c : List Blank) (b : Blank) → AllByRecursion (StandsIn q) c → StandsIn q b → number (nodes_of digest r) (map f c) (f b) ≡ number (nodes_of digest q) c b
@@ -283,8 +285,8 @@ module _ (digest : List ℕ → List ℕ) (q r : List Statement) (e : Same q r) 
   pub Same-first_degree_hash : (n : Blank) → StandsIn q n → first_degree_hash digest r (image e.pairs n) ≡ first_degree_hash digest q n
   Same-first_degree_hash = first_degree_hash-renamed digest (image e.pairs) q r (one_to_one-from_Same q r e) (order-from_Same q r e i j)
 
-  pub Same-IsRun : (x : Result Blank) → IsRun (nodes_of digest q) x → IsRun (nodes_of digest r) (result_f (image e.pairs) x)
-  Same-IsRun = IsRun-renamed digest (image e.pairs) q r (one_to_one-from_Same q r e) (order-from_Same q r e i j)
+  pub Same-IsRun : (x : RunOutcome Blank) → IsRun (nodes_of digest q) x → IsRun (nodes_of digest r) (result_f (applied e.pairs) x)
+  Same-IsRun = IsRun-renamed digest (applied e.pairs) q r (one_to_one-from_Same q r e) (order-from_Same q r e i j)
 
   pub Same-MeetsTie : MeetsTie (nodes_of digest q) ↔ MeetsTie (nodes_of digest r)
   Same-MeetsTie = MeetsTie-renamed digest (image e.pairs) q r (one_to_one-from_Same q r e) (order-from_Same q r e i j)
@@ -298,16 +300,16 @@ module _ (digest : List ℕ → List ℕ) (q r : List Statement) (e : Same q r) 
   pub Same-WithinLimits : (work depth : ℕ) → WithinLimits (nodes_of digest q) work depth ↔ WithinLimits (nodes_of digest r) work depth
   Same-WithinLimits = WithinLimits-renamed digest (image e.pairs) q r (one_to_one-from_Same q r e) (order-from_Same q r e i j)
 
-  pub Same-HasLabels : (c : List Blank) → HasLabels (nodes_of digest q) c → HasLabels (nodes_of digest r) (map (image e.pairs) c)
-  Same-HasLabels = HasLabels-renamed digest (image e.pairs) q r (one_to_one-from_Same q r e) (order-from_Same q r e i j)
+  pub Same-HasLabels : (c : List Blank) → IsCanonicalIssuer (nodes_of digest q) c → IsCanonicalIssuer (nodes_of digest r) (map (applied e.pairs) c)
+  Same-HasLabels = HasLabels-renamed digest (applied e.pairs) q r (one_to_one-from_Same q r e) (order-from_Same q r e i j)
 
-  pub Same-labels_inside : (c : List Blank) → HasLabels (nodes_of digest q) c → AllByRecursion (StandsIn q) c
-  Same-labels_inside = labels-StandsIn digest (image e.pairs) q r (one_to_one-from_Same q r e) (order-from_Same q r e i j)
+  pub Same-labels_inside : (c : List Blank) → IsCanonicalIssuer (nodes_of digest q) c → AllByRecursion (StandsIn q) c
+  Same-labels_inside = labels-StandsIn digest (applied e.pairs) q r (one_to_one-from_Same q r e) (order-from_Same q r e i j)
 
   -- a blank node keeps its number
-  pub Same-number : (c : List Blank) (b : Blank) → HasLabels (nodes_of digest q) c → Contains (blanks q) b → number (nodes_of digest r) (map (image e.pairs) c) (image e.pairs b) ≡ number (nodes_of digest q) c b
-  Same-number c b h m = number-renamed digest (image e.pairs) q r (one_to_one-from_Same q r e) (order-from_Same q r e i j) c b (Same-labels_inside c h) ((blanks-all q b).1 m)
+  pub Same-number : (c : List Blank) (b : Blank) → IsCanonicalIssuer (nodes_of digest q) c → Contains (blanks q) b → number (nodes_of digest r) (map (applied e.pairs) c) (applied e.pairs b) ≡ number (nodes_of digest q) c b
+  Same-number c b h m = number-renamed digest (applied e.pairs) q r (one_to_one-from_Same q r e) (order-from_Same q r e i j) c b (Same-labels_inside c h) ((blanks-all q b).1 m)
 
   -- and the canonical text is the same
-  pub Same-canonical_text : (c : List Blank) → HasLabels (nodes_of digest q) c → canonical_text (canonical_id (nodes_of digest r) (map (image e.pairs) c)) r ≡ canonical_text (canonical_id (nodes_of digest q) c) q
-  Same-canonical_text c h = canonical_text-renamed digest (image e.pairs) q r (one_to_one-from_Same q r e) (order-from_Same q r e i j) c (Same-labels_inside c h)
+  pub Same-canonical_text : (c : List Blank) → IsCanonicalIssuer (nodes_of digest q) c → canonical_text (canonical_id (nodes_of digest r) (map (applied e.pairs) c)) r ≡ canonical_text (canonical_id (nodes_of digest q) c) q
+  Same-canonical_text c h = canonical_text-renamed digest (applied e.pairs) q r (one_to_one-from_Same q r e) (order-from_Same q r e i j) c (Same-labels_inside c h)

@@ -18,9 +18,11 @@ use Rattle.rdfc_ndegree.specs.NDegree.{Outcome, IsNDegree}
 use Rattle.rdfc_ndegree.specs.Datasets.{nodes_of}
 use Rattle.rdfc_ndegree.specs.Table.{table_nodes}
 use Rattle.rdfc_ndegree.specs.TableOf.{IsRowOf, IsTableOf, IsTableWith}
-use Rattle.rdfc_ndegree.specs.Answers.{AnswersCall, CallOver, CallDeep}
-use Rattle.rdfc_ndegree.specs.Building.{number_among, names_of}
-use Rattle.rdfc_ndegree.specs.Requests.{IsSpelledCall, issued, name_at}
+use Rattle.rdfc_ndegree.specs.Answers.{answer, AnswersCall, CallOver, CallDeep}
+use Rattle.rdfc_ndegree.specs.Table.{number_among, names_of}
+use Rattle.rdfc_ndegree.specs.Requests.{call_texts, IsSpelledCall}
+use Rattle.rdfc_ndegree.specs.NumberIssuers.{issue_numbers}
+use Rattle.rdfc_ndegree.specs.Internal.Building.{name_at}
 use Rattle.rdfc_ndegree.specs.declared.table.NodeRow.{NodeRow}
 use Rattle.rdfc_ndegree.proofs.Carry.{outcome_f, IsNDegree-carried, IsNDegree-inside}
 use Rattle.rdfc_ndegree.proofs.CarryBasics.{Each-from_contains}
@@ -28,10 +30,11 @@ use Rattle.rdfc_ndegree.proofs.TableCarry.{at, no_blank, table-carries, table-le
 use Rattle.rdfc_ndegree.proofs.BuildLemmas.{number-get, number-below}
 use Rattle.rdfc_ndegree.proofs.Tables.{absent-any}
 use Rattle.rdfc_ndegree.proofs.TableLemmas.{differ-from_map, numbered_blank, got_map, zip-find, length-names}
+use Rattle.rdfc_ndegree.proofs.Progress.{spending_of}
 
 -- ---- the issuer that has named a list without repeats
 
-issued-append : (c ns : List ℕ) → AllDiffer ns → ((n : ℕ) → Contains ns n → Contains c n → ⊥) → issued c ns ≡ c ++ ns
+issued-append : (c ns : List ℕ) → AllDiffer ns → ((n : ℕ) → Contains ns n → Contains c n → ⊥) → issue_numbers c ns ≡ c ++ ns
 issued-append c [] a free = sym (append-nil c)
 issued-append c (n ∷ ns) a free =
     let none = absent-any c n (free n (Contains-here n ns)) in
@@ -40,7 +43,7 @@ issued-append c (n ∷ ns) a free =
       | inl f ↦ free m (Contains-there n ns m d) f
       | inr f ↦ elim (Contains-cons_cases n [] m f) [ inl g ↦ AllDiffer-head n ns a (subst (Contains ns) (sym g) d) | inr h ↦ Contains-nil m h ]
     ] in
-    ap (λ t. issued (cond t c (c ++ n ∷ [])) ns) none
+    ap (λ t. issue_numbers (cond t c (c ++ n ∷ [])) ns) none
     ∙ issued-append (c ++ n ∷ []) ns (AllDiffer-tail n ns a) apart
     ∙ append_assoc c (n ∷ []) ns
 
@@ -99,7 +102,7 @@ module _ {q : List Statement} {n : Blank} {c i : List Blank} {rows : List NodeRo
       coe_call : (c d : List Blank) (m n : Blank) (i j : List Blank) → c ≡ d → m ≡ n → i ≡ j → (o : Outcome Blank) → IsNDegree (nodes_of sha256_digits q) c m i o → IsNDegree (nodes_of sha256_digits q) d n j o
       coe_call c d m n i j e f g o h = subst (λ z. IsNDegree (nodes_of sha256_digits q) d n z o) g (subst (λ z. IsNDegree (nodes_of sha256_digits q) d z i o) f (subst (λ z. IsNDegree (nodes_of sha256_digits q) z m i o) e h))
 
-  pub answers : {hash : List ℕ} {named : List ℕ} {tie : Bool} {old new depth limit : ℕ} {texts : List (List ℕ)} → AnswersCall (table_nodes rows) canonical node issuer hash named tie old new depth limit → texts ≡ filter_map (name_at rows) named → (j : List Blank) × (texts ≡ map blank_text j) × AnswersCall (nodes_of sha256_digits q) c n i hash j tie old new depth limit
+  pub answers : {hash : List ℕ} {named : List ℕ} {tie : Bool} {old new depth limit : ℕ} {texts : List (List ℕ)} → AnswersCall (table_nodes rows) canonical node issuer (answer hash named tie) (spending_of old new depth limit) → texts ≡ filter_map (name_at rows) named → (j : List Blank) × (texts ≡ map blank_text j) × AnswersCall (nodes_of sha256_digits q) c n i (answer hash j tie) (spending_of old new depth limit)
   answers {named = named} a is =
       let t = there a.outcome a.call in
       let e = a.issuer_is in
@@ -149,7 +152,7 @@ last-named names others canonical issuer node is all =
 abbrev called_on : Blank → List Blank → List Blank → List Blank
 called_on n c i = c ++ (i ++ n ∷ [])
 
-carried_call : (q : List Statement) (n : Blank) (c i : List Blank) (firsts : List BlankHash) (rows : List NodeRow) (canonical : List ℕ) (node : List ℕ) (number : ℕ) (issuer : List ℕ) (canonical_texts issuer_texts : List (List ℕ)) → IsTableWith q firsts (called_on n c i) rows → AllDiffer c → canonical_texts ≡ map blank_text c → issuer_texts ≡ map blank_text i → canonical ≡ issued [] (filter_map (number_among (names_of rows)) canonical_texts) → issuer ≡ filter_map (number_among (names_of rows)) issuer_texts → number_among (names_of rows) node ≡ Some number → node ≡ blank_text n → IsCarried q n c i rows canonical number issuer
+carried_call : (q : List Statement) (n : Blank) (c i : List Blank) (firsts : List BlankHash) (rows : List NodeRow) (canonical : List ℕ) (node : List ℕ) (number : ℕ) (issuer : List ℕ) (canonical_texts issuer_texts : List (List ℕ)) → IsTableWith q firsts (called_on n c i) rows → AllDiffer c → canonical_texts ≡ map blank_text c → issuer_texts ≡ map blank_text i → canonical ≡ issue_numbers [] (filter_map (number_among (names_of rows)) canonical_texts) → issuer ≡ filter_map (number_among (names_of rows)) issuer_texts → number_among (names_of rows) node ≡ Some number → node ≡ blank_text n → IsCarried q n c i rows canonical number issuer
 carried_call q n c i firsts rows canonical node number issuer canonical_texts issuer_texts t differ cs is canonical_is issuer_is number_is node_is =
     let bs = t.nodes in
     let all = called_on n c i in
@@ -178,20 +181,20 @@ carried_call q n c i firsts rows canonical node number issuer canonical_texts is
 
 pub record Steps (quads : List TextQuad) (firsts : List BlankHash) (canonical : List (List ℕ)) (node : List ℕ) (issuer : List (List ℕ)) (rows : List NodeRow) (named : List ℕ) (number : ℕ) (begun : List ℕ) : Type 0 where
   pub table : (q : List Statement) (cs : List Blank) → quads ≡ map text_quad q → AreFirstHashes sha256_digits q firsts → canonical ++ (issuer ++ node ∷ []) ≡ map blank_text cs → IsTableWith q firsts cs rows
-  pub named_is : named ≡ issued [] (filter_map (number_among (names_of rows)) canonical)
+  pub named_is : named ≡ issue_numbers [] (filter_map (number_among (names_of rows)) canonical)
   pub begun_is : begun ≡ filter_map (number_among (names_of rows)) issuer
   pub number_is : number_among (names_of rows) node ≡ Some number
 
-pub steps : {quads : List TextQuad} {firsts : List BlankHash} {canonical : List (List ℕ)} {node : List ℕ} {issuer : List (List ℕ)} {first second : List (List ℕ)} {text : List ℕ} {rows : List NodeRow} {named : List ℕ} {number : ℕ} {begun : List ℕ} → first ≡ canonical → second ≡ issuer → ((q : List Statement) (cs : List Blank) → quads ≡ map text_quad q → AreFirstHashes sha256_digits q firsts → first ++ (second ++ node ∷ []) ≡ map blank_text cs → IsTableWith q firsts cs rows) → named ≡ issued [] (filter_map (number_among (names_of rows)) first) → begun ≡ filter_map (number_among (names_of rows)) second → text ≡ node → Some number ≡ number_among (names_of rows) text → Steps quads firsts canonical node issuer rows named number begun
+pub steps : {quads : List TextQuad} {firsts : List BlankHash} {canonical : List (List ℕ)} {node : List ℕ} {issuer : List (List ℕ)} {first second : List (List ℕ)} {text : List ℕ} {rows : List NodeRow} {named : List ℕ} {number : ℕ} {begun : List ℕ} → first ≡ canonical → second ≡ issuer → ((q : List Statement) (cs : List Blank) → quads ≡ map text_quad q → AreFirstHashes sha256_digits q firsts → first ++ (second ++ node ∷ []) ≡ map blank_text cs → IsTableWith q firsts cs rows) → named ≡ issue_numbers [] (filter_map (number_among (names_of rows)) first) → begun ≡ filter_map (number_among (names_of rows)) second → text ≡ node → Some number ≡ number_among (names_of rows) text → Steps quads firsts canonical node issuer rows named number begun
 steps {node = node} {rows = rows} a b table named_is begun_is g number_is = record {
   table = λ q cs is are all. table q cs is are ((λ j. a j ++ (b j ++ node ∷ [])) ∙ all);
-  named_is = named_is ∙ ap (λ ts. issued [] (filter_map (number_among (names_of rows)) ts)) a;
+  named_is = named_is ∙ ap (λ ts. issue_numbers [] (filter_map (number_among (names_of rows)) ts)) a;
   begun_is = begun_is ∙ ap (filter_map (number_among (names_of rows))) b;
   number_is = ap (number_among (names_of rows)) (sym g) ∙ sym number_is;
 }
 
-pub call_carried : {quads : List TextQuad} {firsts : List BlankHash} {canonical : List (List ℕ)} {node : List ℕ} {issuer : List (List ℕ)} (q : List Statement) (n : Blank) (c i : List Blank) → IsSpelledCall q n c i quads firsts canonical node issuer → {rows : List NodeRow} {named begun : List ℕ} {number : ℕ} → Steps quads firsts canonical node issuer rows named number begun → IsCarried q n c i rows named number begun
+pub call_carried : {quads : List TextQuad} {firsts : List BlankHash} {canonical : List (List ℕ)} {node : List ℕ} {issuer : List (List ℕ)} (q : List Statement) (n : Blank) (c i : List Blank) → IsSpelledCall q n c i (call_texts quads firsts canonical node issuer) → {rows : List NodeRow} {named begun : List ℕ} {number : ℕ} → Steps quads firsts canonical node issuer rows named number begun → IsCarried q n c i rows named number begun
 call_carried {firsts = firsts} {canonical = canonical} {node = node} {issuer = issuer} q n c i call {rows = rows} {named = named} {begun = begun} {number = number} s =
     let texts : canonical ++ (issuer ++ node ∷ []) ≡ map blank_text c ++ (map blank_text i ++ blank_text n ∷ []) = λ j. call.canonical_is j ++ (call.issuer_is j ++ call.node_is j ∷ []) in
     let all : canonical ++ (issuer ++ node ∷ []) ≡ map blank_text (called_on n c i) = texts ∙ ap (λ ts. map blank_text c ++ ts) (sym (map-append blank_text i (n ∷ []))) ∙ sym (map-append blank_text c (i ++ n ∷ [])) in
-    carried_call q n c i firsts rows named node number begun canonical issuer (s.table q (called_on n c i) call.quads_are call.hashes all) call.named_once call.canonical_is call.issuer_is s.named_is s.begun_is s.number_is call.node_is
+    carried_call q n c i firsts rows named node number begun canonical issuer (s.table q (called_on n c i) call.quads_are call.hashes all) call.once call.canonical_is call.issuer_is s.named_is s.begun_is s.number_is call.node_is

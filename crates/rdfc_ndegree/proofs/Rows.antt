@@ -4,20 +4,21 @@ use Rattle.std.proofs.lemmas.List.Elements.{All-contains, All-push, All-head, Al
 use Rattle.base_types.proofs.Lists.{Contains-from_map}
 use Rattle.nquads.proofs.ReadingElements.{All-from_contains}
 use Rattle.rdfc_ndegree.specs.Issuers.{has}
-use Rattle.rdfc_ndegree.specs.Kept.{group_in}
+use Rattle.rdfc_ndegree.specs.Table.{group_in}
 use Rattle.rdfc_ndegree.specs.declared.related.NodeGroup.{NodeGroup}
 use Rattle.rdfc_ndegree.specs.declared.table.NodeRow.{NodeRow}
-use Rattle.rdfc_ndegree.specs.Nodes.{AreNodes}
+use Rattle.rdfc_ndegree.specs.Internal.Nodes.{AreNodes}
 use Rattle.rdfc_ndegree.specs.Groups.{Group}
-use Rattle.rdfc_ndegree.specs.NDegree.{named, named_all, newly_named}
+use Rattle.rdfc_ndegree.specs.NDegree.{issue_temporary, issuer_copy, recursion_list}
 use Rattle.rdfc_ndegree.specs.Table.{table_nodes}
-use Rattle.rdfc_ndegree.specs.Lack.{lack, Grows, AreListed}
-use Rattle.rdfc_ndegree.specs.Evaluations.{AnswersChoice}
-use Rattle.rdfc_ndegree.specs.Answers.{AnswersCall}
+use Rattle.rdfc_ndegree.proofs.Lack.{lack, Grows, AreListed}
+use Rattle.rdfc_ndegree.specs.Internal.Evaluations.{choice_answer, AnswersChoice}
+use Rattle.rdfc_ndegree.specs.Answers.{answer, AnswersCall}
 use Rattle.rdfc_ndegree.proofs.Tables.{table-all}
 use Rattle.rdfc_ndegree.proofs.TableCarry.{numbers-contains}
 use Rattle.rdfc_ndegree.proofs.Grow.{IsChoice-grows, IsNDegree-grows}
 use Rattle.rdfc_ndegree.proofs.Exists.{lack-grows, walk-less, newly_named-member}
+use Rattle.rdfc_ndegree.proofs.Progress.{spending_of}
 
 module _ (rows : List NodeRow) where
   pub row-listed : (n : ℕ) → n < length rows → Contains (table_nodes rows).all n
@@ -35,14 +36,14 @@ module _ (rows : List NodeRow) where
   unfolding unnamed
   unnamed-grows c i j g = lack-grows (table_nodes rows) c i j (table_nodes rows).all g
 
-  pub unnamed-choice : {c i members : List ℕ} {path : List ℕ} {issuer : List ℕ} {tie : Bool} {old new depth limit : ℕ} → AnswersChoice (table_nodes rows) c i members path issuer tie old new depth limit → unnamed c issuer ≤ unnamed c i
+  pub unnamed-choice : {c i members : List ℕ} {path : List ℕ} {issuer : List ℕ} {tie : Bool} {old new depth limit : ℕ} → AnswersChoice (table_nodes rows) c i members (choice_answer path issuer tie) (spending_of old new depth limit) → unnamed c issuer ≤ unnamed c i
   unnamed-choice {c = c} {i = i} {members = members} {issuer = issuer} a = unnamed-grows c i issuer (subst (Grows (table_nodes rows) i) (sym a.issuer_is) (IsChoice-grows (table_nodes rows) c i members a.choice a.is_choice))
 
-  pub unnamed-call : {c : List ℕ} {n : ℕ} {i : List ℕ} {hash : List ℕ} {issuer : List ℕ} {tie : Bool} {old new depth limit : ℕ} → AnswersCall (table_nodes rows) c n i hash issuer tie old new depth limit → unnamed c issuer ≤ unnamed c i
+  pub unnamed-call : {c : List ℕ} {n : ℕ} {i : List ℕ} {hash : List ℕ} {issuer : List ℕ} {tie : Bool} {old new depth limit : ℕ} → AnswersCall (table_nodes rows) c n i (answer hash issuer tie) (spending_of old new depth limit) → unnamed c issuer ≤ unnamed c i
   unnamed-call {c = c} {n = n} {i = i} {issuer = issuer} a = unnamed-grows c i issuer (subst (Grows (table_nodes rows) i) (sym a.issuer_is) (IsNDegree-grows (table_nodes rows) c n i a.outcome a.call))
 
   -- an arrangement that names a node leaves fewer
-  pub unnamed-walk : AreNodes (table_nodes rows) → (c i p : List ℕ) → All (λ m. m < length rows) p → (k d : ℕ) → k < length (newly_named (table_nodes rows) c i p) → unnamed c (named_all (table_nodes rows) c i p) < unnamed c i
+  pub unnamed-walk : AreNodes (table_nodes rows) → (c i p : List ℕ) → All (λ m. m < length rows) p → (k d : ℕ) → k < length (recursion_list (table_nodes rows) c i p) → unnamed c (issuer_copy (table_nodes rows) c i p) < unnamed c i
   unfolding unnamed
   unnamed-walk laws c i p all k d lt =
       ⊎_elim (λ none. let e = ap length none in absurd (omega arith)) (λ less. less) (walk-less (table_nodes rows) laws c i p (rows-listed p all))
@@ -52,13 +53,13 @@ module _ (rows : List NodeRow) where
   All-named P false true i m all here = all
   All-named P false false i m all here = All-push P i m all here
 
-  pub All-named_all : (P : ℕ → Type 0) (c i p : List ℕ) → All P i → All P p → All P (named_all (table_nodes rows) c i p)
+  pub All-named_all : (P : ℕ → Type 0) (c i p : List ℕ) → All P i → All P p → All P (issuer_copy (table_nodes rows) c i p)
   All-named_all P c i [] all each = all
   All-named_all P c i (m ∷ ms) all each =
-      All-named_all P c (named (table_nodes rows) c i m) ms (All-named P (has (table_nodes rows) c m) (has (table_nodes rows) i m) i m all (All-head P m ms each)) (All-tail P m ms each)
+      All-named_all P c (issue_temporary (table_nodes rows) c i m) ms (All-named P (has (table_nodes rows) c m) (has (table_nodes rows) i m) i m all (All-head P m ms each)) (All-tail P m ms each)
 
-  pub All-newly_named : (P : ℕ → Type 0) (c i p : List ℕ) → All P p → All P (newly_named (table_nodes rows) c i p)
-  All-newly_named P c i p each = All-from_contains P (newly_named (table_nodes rows) c i p) (λ m k. All-contains P p m each (newly_named-member (table_nodes rows) c i p m k))
+  pub All-newly_named : (P : ℕ → Type 0) (c i p : List ℕ) → All P p → All P (recursion_list (table_nodes rows) c i p)
+  All-newly_named P c i p each = All-from_contains P (recursion_list (table_nodes rows) c i p) (λ m k. All-contains P p m each (newly_named-member (table_nodes rows) c i p m k))
 
   -- each group's members are rows, with the groups as the program keeps them
   pub groups-rows : (gs : List NodeGroup) → All (λ (g : NodeGroup). All (λ m. m < length rows) g.members) gs → (g : Group ℕ) → Contains (map group_in gs) g → AreListed (table_nodes rows) g.members

@@ -17,7 +17,7 @@ use Rattle.base_types.proofs.Orders.{text_cmp, is_upto-cmp, by_cmp}
 use Rattle.rdfc_ndegree.specs.Nodes.{Nodes}
 use Rattle.rdfc_ndegree.specs.Groups.{Group}
 use Rattle.rdfc_ndegree.specs.NDegree.{Outcome, IsNDegree}
-use Rattle.rdfc_ndegree.specs.Run.{first_groups, alone, lacking, take_issuer, take_issuers, InHashOrder, results_tie, Result, Rounds, IsRun, MeetsTie, HasLabels}
+use Rattle.rdfc_ndegree.specs.Run.{first_groups, alone, lacking, take_issuer, take_issuers, InHashOrder, results_tie, RunOutcome, Rounds, IsRun, MeetsTie, IsCanonicalIssuer}
 use Rattle.rdfc_ndegree.proofs.AgreeBasics.{same_tests, bytes_eq-true, bytes_eq-same, once, count_by-cons, count_by-two, count_by-none, AllZip-join}
 use Rattle.rdfc_ndegree.proofs.Agree.{IsAgreed, IsNDegree-agrees}
 use Rattle.rdfc_ndegree.proofs.CarryBasics.{SameElements-permutation}
@@ -135,14 +135,14 @@ take_issuers-bare v c (o ∷ os) = take_issuers-bare v (take_issuer v c o.issuer
 
 -- ---- runs
 
-abbrev pub ResultsAgree : {B : Type 0} → Result B → Result B → Type 0
+abbrev pub ResultsAgree : {B : Type 0} → RunOutcome B → RunOutcome B → Type 0
 ResultsAgree r s = (r.tie ≡ s.tie) × (r.tie ≡ false → r.issuer ≡ s.issuer)
 
 module _ {B : Type 0} (v : Nodes B) where
   abbrev RoundsAgree : List (Group B) → Type 0
-  RoundsAgree gs = (c : List B) (r s : Result B) → Rounds v c gs r → Rounds v c gs s → ResultsAgree r s
+  RoundsAgree gs = (c : List B) (r s : RunOutcome B) → Rounds v c gs r → Rounds v c gs s → ResultsAgree r s
 
-  round_step : (c : List B) (g : Group B) (gs : List (Group B)) (r s : Result B) → RoundsAgree gs → Rounds v c (g ∷ gs) r → Rounds v c (g ∷ gs) s → ResultsAgree r s
+  round_step : (c : List B) (g : Group B) (gs : List (Group B)) (r s : RunOutcome B) → RoundsAgree gs → Rounds v c (g ∷ gs) r → Rounds v c (g ∷ gs) s → ResultsAgree r s
   round_step c g gs r s later d e = go (results_tie d.outcomes) refl
     where
       forth : AllZip IsAgreed d.outcomes e.outcomes
@@ -155,10 +155,10 @@ module _ {B : Type 0} (v : Nodes B) where
       ties = same_tests (results_tie d.outcomes) (results_tie e.outcomes) (λ f. (results_follow d.outcomes e.outcomes forth f).no_tie) (λ f. (results_follow e.outcomes d.outcomes back f).no_tie)
 
       tie_left : r.tie ≡ (results_tie d.outcomes || d.rest.tie)
-      tie_left = ap (λ (z : Result B). z.tie) d.is
+      tie_left = ap (λ (z : RunOutcome B). z.tie) d.is
 
       tie_right : s.tie ≡ (results_tie e.outcomes || e.rest.tie)
-      tie_right = ap (λ (z : Result B). z.tie) e.is
+      tie_right = ap (λ (z : RunOutcome B). z.tie) e.is
 
       go : (b : Bool) → results_tie d.outcomes ≡ b → ResultsAgree r s
       go true f =
@@ -172,34 +172,34 @@ module _ {B : Type 0} (v : Nodes B) where
           let rest : ResultsAgree d.rest e.rest = later (take_issuers v c d.sorted) d.rest e.rest d.goes_on moved in
           let left : r.tie ≡ d.rest.tie = tie_left ∙ ap (λ (b : Bool). b || d.rest.tie) f in
           let right : s.tie ≡ e.rest.tie = tie_right ∙ ap (λ (b : Bool). b || e.rest.tie) (sym ties ∙ f) in
-          (left ∙ rest.0 ∙ sym right, λ h. ap (λ (z : Result B). z.issuer) d.is ∙ rest.1 (sym left ∙ h) ∙ sym (ap (λ (z : Result B). z.issuer) e.is))
+          (left ∙ rest.0 ∙ sym right, λ h. ap (λ (z : RunOutcome B). z.issuer) d.is ∙ rest.1 (sym left ∙ h) ∙ sym (ap (λ (z : RunOutcome B). z.issuer) e.is))
 
-  pub Rounds-agree : (gs : List (Group B)) (c : List B) (r s : Result B) → Rounds v c gs r → Rounds v c gs s → ResultsAgree r s
+  pub Rounds-agree : (gs : List (Group B)) (c : List B) (r s : RunOutcome B) → Rounds v c gs r → Rounds v c gs s → ResultsAgree r s
   Rounds-agree [] c r s d e =
       let same : r ≡ s = d ∙ sym e in
-      (ap (λ (z : Result B). z.tie) same, λ f. ap (λ (z : Result B). z.issuer) same)
+      (ap (λ (z : RunOutcome B). z.tie) same, λ f. ap (λ (z : RunOutcome B). z.issuer) same)
   Rounds-agree (g ∷ gs) c r s d e = round_step c g gs r s (Rounds-agree gs) d e
 
-pub runs-agree : {B : Type 0} {v : Nodes B} {r s : Result B} → IsRun v r → IsRun v s → (r.tie ≡ s.tie) × (r.tie ≡ false → r.issuer ≡ s.issuer)
+pub runs-agree : {B : Type 0} {v : Nodes B} {r s : RunOutcome B} → IsRun v r → IsRun v s → (r.tie ≡ s.tie) × (r.tie ≡ false → r.issuer ≡ s.issuer)
 runs-agree {v = v} {r = r} {s = s} d e = Rounds-agree v (first_groups v) (alone (first_groups v)) r s d.rounds e.rounds
 
 -- a run tells whether any run meets a tie
-pub tie-exactly : {B : Type 0} {v : Nodes B} {r : Result B} → IsRun v r → (r.tie ≡ true → MeetsTie v) × (MeetsTie v → r.tie ≡ true)
+pub tie-exactly : {B : Type 0} {v : Nodes B} {r : RunOutcome B} → IsRun v r → (r.tie ≡ true → MeetsTie v) × (MeetsTie v → r.tie ≡ true)
 tie-exactly {r = r} d = ((λ e. record { run = r; is_run = d; tie = e }), (λ m. (runs-agree d m.is_run).0 ∙ m.tie))
 
 -- where one run meets no tie, each gives its labels and meets none
-pub labels-once : {B : Type 0} {v : Nodes B} {c : List B} {r : Result B} → HasLabels v c → IsRun v r → (r.tie ≡ false) × (r.issuer ≡ c)
+pub labels-once : {B : Type 0} {v : Nodes B} {c : List B} {r : RunOutcome B} → IsCanonicalIssuer v c → IsRun v r → (r.tie ≡ false) × (r.issuer ≡ c)
 labels-once h d =
     let same = runs-agree h.is_run d in
     (sym same.0 ∙ h.no_tie, sym (same.1 h.no_tie) ∙ h.is)
 
-pub labels-of-run : {B : Type 0} {v : Nodes B} {r : Result B} → IsRun v r → r.tie ≡ false → HasLabels v r.issuer
+pub labels-of-run : {B : Type 0} {v : Nodes B} {r : RunOutcome B} → IsRun v r → r.tie ≡ false → IsCanonicalIssuer v r.issuer
 labels-of-run {r = r} d e = record { run = r; is_run = d; no_tie = e; is = refl }
 
 -- labels are the labels of one issuer alone
-pub labels-unique : {B : Type 0} {v : Nodes B} {c d : List B} → HasLabels v c → HasLabels v d → c ≡ d
+pub labels-unique : {B : Type 0} {v : Nodes B} {c d : List B} → IsCanonicalIssuer v c → IsCanonicalIssuer v d → c ≡ d
 labels-unique h k = sym (labels-once h k.is_run).1 ∙ k.is
 
 -- and where there are labels, no run meets a tie
-pub labels-no_tie : {B : Type 0} {v : Nodes B} {c : List B} → HasLabels v c → MeetsTie v → ⊥
+pub labels-no_tie : {B : Type 0} {v : Nodes B} {c : List B} → IsCanonicalIssuer v c → MeetsTie v → ⊥
 labels-no_tie h m = true≢false (sym m.tie ∙ (labels-once h m.is_run).0)

@@ -10,13 +10,13 @@ use Rattle.base_types.specs.Order.{is_upto}
 use Rattle.base_types.proofs.Lists.{Contains-here, Contains-cons_cases, Contains-nil}
 use Rattle.rdfc_ndegree.specs.Nodes.{Nodes}
 use Rattle.rdfc_ndegree.specs.Issuers.{has, issue}
-use Rattle.rdfc_ndegree.specs.Groups.{Hashed, Group}
+use Rattle.rdfc_ndegree.specs.Groups.{NodeHash, Group}
 use Rattle.rdfc_ndegree.specs.NDegree.{Outcome, IsNDegree}
-use Rattle.rdfc_ndegree.specs.Run.{hashed_first, first_groups, if_alone, alone, lacking, take_issuer, take_issuers, InHashOrder, results_tie, work_of, depth_of, Result, run_more, Rounds, IsRun, MeetsTie, WorkOver, DepthOver, WithinLimits, HasLabels}
+use Rattle.rdfc_ndegree.specs.Run.{with_first_hash, first_groups, if_alone, alone, lacking, take_issuer, take_issuers, InHashOrder, results_tie, work_of, depth_of, RunOutcome, run_more, Rounds, IsRun, MeetsTie, WorkOver, DepthOver, WithinLimits, IsCanonicalIssuer}
 use Rattle.rdfc_ndegree.proofs.CarryBasics.{through_permutation, IsPermutation-filter, AllZip-permutation, Each-permutation, Each-append, Each-filter, Each-map, map-map, map-agree, filter-map, list_any-map_each}
 use Rattle.rdfc_ndegree.proofs.Carry.{hashed_f, outcome_f, Carries, SameGroup, Arrives, grouped-carried, has-carried, issue-carried, issue-inside, IsNDegree-carried, IsNDegree-inside}
 
-abbrev pub result_f : {A B : Type 0} → (A → B) → Result A → Result B
+abbrev pub result_f : {A B : Type 0} → (A → B) → RunOutcome A → RunOutcome B
 result_f f r = record { issuer = map f r.issuer; tie = r.tie; work = r.work; depth = r.depth }
 
 -- ---- what the outcomes of a round give in any order
@@ -81,7 +81,7 @@ module _ {A B : Type 0} (f : A → B) where
   depth_kept [] = refl
   depth_kept (o ∷ os) = ap (λ n. max o.depth n) (depth_kept os)
 
-  more_kept : (os : List (Outcome A)) (ps : List (Outcome B)) (r : Result A) → IsPermutation (map (outcome_f f) os) ps → result_f f (run_more os r) ≡ run_more ps (result_f f r)
+  more_kept : (os : List (Outcome A)) (ps : List (Outcome B)) (r : RunOutcome A) → IsPermutation (map (outcome_f f) os) ps → result_f f (run_more os r) ≡ run_more ps (result_f f r)
   more_kept os ps r s =
       let same = counted (map (outcome_f f) os) ps s in
       let tie : results_tie os ≡ results_tie ps = sym (tie_kept os) ∙ same.tie in
@@ -165,8 +165,8 @@ module _ {A B : Type 0} (f : A → B) (Dom : A → Type 0) (v : Nodes A) (w : No
         zipped = (IsNDegree-carried f Dom v w s c n (n ∷ []) o hc (hn.0, tt) hn.0 z.0, more.zipped);
       }
 
-  pub Rounds-carried : (c : List A) (gs : List (Group A)) (hs : List (Group B)) (r : Result A) → AllByRecursion Dom c → AllZip (SameGroup f Dom) gs hs → Rounds v c gs r → Arrives Dom r.issuer (Rounds w (map f c) hs (result_f f r))
-  Rounds-carried c [] [] r hc z d = record { in_domain = subst (λ (u : Result A). AllByRecursion Dom u.issuer) (sym d) hc; is_there = ap (result_f f) d }
+  pub Rounds-carried : (c : List A) (gs : List (Group A)) (hs : List (Group B)) (r : RunOutcome A) → AllByRecursion Dom c → AllZip (SameGroup f Dom) gs hs → Rounds v c gs r → Arrives Dom r.issuer (Rounds w (map f c) hs (result_f f r))
+  Rounds-carried c [] [] r hc z d = record { in_domain = subst (λ (u : RunOutcome A). AllByRecursion Dom u.issuer) (sym d) hc; is_there = ap (result_f f) d }
   Rounds-carried c [] (h ∷ hs) r hc z d = absurd z
   Rounds-carried c (g ∷ gs) [] r hc z d = absurd z
   Rounds-carried c (g ∷ gs) (h ∷ hs) r hc z d =
@@ -178,7 +178,7 @@ module _ {A B : Type 0} (f : A → B) (Dom : A → Type 0) (v : Nodes A) (w : No
       let inside : AllByRecursion (λ (o : Outcome A). AllByRecursion Dom o.issuer) d.sorted = Each-permutation (λ (o : Outcome A). AllByRecursion Dom o.issuer) d.outcomes d.sorted d.order each.inside in
       let more = Rounds-carried (take_issuers v c d.sorted) gs hs d.rest (take_issuers-inside c d.sorted hc inside) z.1 d.goes_on in
       record {
-        in_domain = subst (λ (u : Result A). AllByRecursion Dom u.issuer) (sym d.is) more.in_domain;
+        in_domain = subst (λ (u : RunOutcome A). AllByRecursion Dom u.issuer) (sym d.is) more.in_domain;
         is_there = record {
           outcomes = along.others;
           sorted = map (outcome_f f) d.sorted;
@@ -196,15 +196,15 @@ module _ {A B : Type 0} (f : A → B) (Dom : A → Type 0) (v : Nodes A) (w : No
   module _ (all : IsPermutation (map f v.all) w.all) (inside : AllByRecursion Dom v.all) where
     first_carried : AllZip (SameGroup f Dom) (first_groups v) (first_groups w)
     first_carried =
-        let turned : map (hashed_first w) (map f v.all) ≡ map (hashed_f f) (map (hashed_first v) v.all) =
-        map-map (hashed_first w) f v.all
-        ∙ map-agree Dom (λ n. hashed_first w (f n)) (λ n. hashed_f f (hashed_first v n)) (λ n d. let e = s.first n d in λ j. record { hash = e j; node = f n }) v.all inside
-        ∙ sym (map-map (hashed_f f) (hashed_first v) v.all) in
-        grouped-carried f Dom (map (hashed_first v) v.all) (map (hashed_first w) w.all)
-        (Each-map (λ (h : Hashed A). Dom h.node) (hashed_first v) v.all inside)
-        (subst (λ l. IsPermutation l (map (hashed_first w) w.all)) turned (IsPermutation-map (hashed_first w) (map f v.all) w.all all))
+        let turned : map (with_first_hash w) (map f v.all) ≡ map (hashed_f f) (map (with_first_hash v) v.all) =
+        map-map (with_first_hash w) f v.all
+        ∙ map-agree Dom (λ n. with_first_hash w (f n)) (λ n. hashed_f f (with_first_hash v n)) (λ n d. let e = s.first n d in λ j. record { hash = e j; node = f n }) v.all inside
+        ∙ sym (map-map (hashed_f f) (with_first_hash v) v.all) in
+        grouped-carried f Dom (map (with_first_hash v) v.all) (map (with_first_hash w) w.all)
+        (Each-map (λ (h : NodeHash A). Dom h.node) (with_first_hash v) v.all inside)
+        (subst (λ l. IsPermutation l (map (with_first_hash w) w.all)) turned (IsPermutation-map (with_first_hash w) (map f v.all) w.all all))
 
-    run_arrives : (r : Result A) → IsRun v r → Arrives Dom r.issuer (IsRun w (result_f f r))
+    run_arrives : (r : RunOutcome A) → IsRun v r → Arrives Dom r.issuer (IsRun w (result_f f r))
     run_arrives r d =
         let there = Rounds-carried (alone (first_groups v)) (first_groups v) (first_groups w) r (alone-inside f Dom (first_groups v) (first_groups w) first_carried) first_carried d.rounds in
         record {
@@ -213,11 +213,11 @@ module _ {A B : Type 0} (f : A → B) (Dom : A → Type 0) (v : Nodes A) (w : No
         }
 
     -- A run is carried.
-    pub IsRun-carried : (r : Result A) → IsRun v r → IsRun w (result_f f r)
+    pub IsRun-carried : (r : RunOutcome A) → IsRun v r → IsRun w (result_f f r)
     IsRun-carried r d = (run_arrives r d).is_there
 
     -- and its issuer is within Dom
-    pub IsRun-inside : (r : Result A) → IsRun v r → AllByRecursion Dom r.issuer
+    pub IsRun-inside : (r : RunOutcome A) → IsRun v r → AllByRecursion Dom r.issuer
     IsRun-inside r d = (run_arrives r d).in_domain
 
     pub MeetsTie-carried : MeetsTie v → MeetsTie w
@@ -233,8 +233,8 @@ module _ {A B : Type 0} (f : A → B) (Dom : A → Type 0) (v : Nodes A) (w : No
     pub WithinLimits-carried : (work depth : ℕ) → WithinLimits w work depth → WithinLimits v work depth
     WithinLimits-carried work depth h = λ r d. h (result_f f r) (IsRun-carried r d)
 
-    pub HasLabels-carried : (c : List A) → HasLabels v c → HasLabels w (map f c)
+    pub HasLabels-carried : (c : List A) → IsCanonicalIssuer v c → IsCanonicalIssuer w (map f c)
     HasLabels-carried c t = record { run = result_f f t.run; is_run = IsRun-carried t.run t.is_run; no_tie = t.no_tie; is = ap (map f) t.is }
 
-    pub HasLabels-inside : (c : List A) → HasLabels v c → AllByRecursion Dom c
+    pub HasLabels-inside : (c : List A) → IsCanonicalIssuer v c → AllByRecursion Dom c
     HasLabels-inside c t = subst (AllByRecursion Dom) t.is (IsRun-inside t.run t.is_run)

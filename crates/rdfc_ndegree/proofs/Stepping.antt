@@ -19,7 +19,7 @@ use Rattle.base_types.proofs.Rising.{rising-rises, rising-same}
 use Rattle.rdfc_ndegree.specs.NDegree.{AreArrangements}
 use Rattle.rdfc_ndegree.proofs.Basics.{Contains-filter, Contains-from_filter, Contains-flat_map, Contains-from_flat_map}
 use Rattle.rdfc_ndegree.proofs.CarryBasics.{Each-from_contains}
-use Rattle.rdfc_ndegree.specs.Sequences.{put_everywhere, orders_of, left_from, Falls, IsStep, Advances}
+use Rattle.rdfc_ndegree.specs.Internal.Sequences.{put_everywhere, orders_of, left_from, Falls, IsStep, Advances}
 use Rattle.rdfc_ndegree.proofs.Grouping.{less-upto}
 
 -- ---- how often a number stands in a list

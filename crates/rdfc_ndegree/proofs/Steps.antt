@@ -6,13 +6,14 @@ use Rattle.std.specs.List.{AllZip, list_any, starts_with}
 use Rattle.std.proofs.lemmas.List.Elements.{Contains-append_right}
 use Rattle.base_types.specs.Order.{is_upto}
 use Rattle.base_types.proofs.Lists.{Contains-here, Contains-there, Contains-nil}
-use Rattle.rdfc_ndegree.specs.Nodes.{Nodes, AreNodes}
+use Rattle.rdfc_ndegree.specs.Nodes.{Nodes}
+use Rattle.rdfc_ndegree.specs.Internal.Nodes.{AreNodes}
 use Rattle.rdfc_ndegree.specs.Groups.{Group, related_groups}
-use Rattle.rdfc_ndegree.specs.NDegree.{Outcome, Trail, Choice, named_all, first_path, newly_named, entry, trail_end, trail_more, AreArrangements, chosen, meets_tie, InGroups, outcome_end, outcome_more, one_deeper, IsNDegree}
-use Rattle.rdfc_ndegree.specs.Lack.{AreListed}
-use Rattle.rdfc_ndegree.specs.Answers.{AnswersCall, CallOver, CallDeep}
-use Rattle.rdfc_ndegree.specs.Evaluations.{IsTrail, IsGroupChoice, AnswersTrail, TrailOver, TrailDeep, AnswersChoice, ChoiceOver, ChoiceDeep, IsFaultOf, IsAmong, IsBestOf}
-use Rattle.rdfc_ndegree.specs.Progress.{after, Walking, Choosing, joining, Grouping}
+use Rattle.rdfc_ndegree.specs.NDegree.{Outcome, Trail, Choice, issuer_copy, first_path, recursion_list, path_part, trail_end, trail_more, AreArrangements, choice_of, meets_tie, InGroups, outcome_end, outcome_more, one_deeper, IsNDegree}
+use Rattle.rdfc_ndegree.proofs.Lack.{AreListed}
+use Rattle.rdfc_ndegree.specs.Answers.{answer, AnswersCall, CallOver, CallDeep}
+use Rattle.rdfc_ndegree.specs.Internal.Evaluations.{trail_answer, choice_answer, IsTrail, IsGroupChoice, AnswersTrail, TrailOver, TrailDeep, AnswersChoice, ChoiceOver, ChoiceDeep, IsFaultOf, IsAmong, IsBestOf}
+use Rattle.rdfc_ndegree.proofs.Progress.{spending_of, trail_after, Walking, Choosing, outcome_after, Grouping}
 use Rattle.rdfc_ndegree.specs.declared.limits.Limits.{Limits}
 use Rattle.rdfc_ndegree.specs.declared.limits.CanonFault.{CanonFault}
 use Rattle.rdfc_ndegree.specs.declared.limits.CanonFault.TheVariants as fault
@@ -36,26 +37,26 @@ noted false ties us path = refl
 -- ---- the nested calls of an arrangement
 
 module _ {B : Type 0} where
-  after-none : (u : Trail B) → u ≡ after [] 0 0 u
+  after-none : (u : Trail B) → u ≡ trail_after [] 0 0 u
   after-none u =
       let w : u.work ≡ 0 + u.work = omega arith in
       let d : u.depth ≡ max 0 u.depth = omega arith in
       λ i. record { path = u.path; issuer = u.issuer; ties = u.ties; work = w i; depth = d i }
 
-  after-more : (ties : List (List ℕ)) (work deep : ℕ) (path : List ℕ) (o : Outcome B) (u : Trail B) → after ties work deep (trail_more path o u) ≡ after (if o.tie then ties ++ path ∷ [] else ties) (work + o.work) (max deep o.depth) u
+  after-more : (ties : List (List ℕ)) (work deep : ℕ) (path : List ℕ) (o : Outcome B) (u : Trail B) → trail_after ties work deep (trail_more path o u) ≡ trail_after (if o.tie then ties ++ path ∷ [] else ties) (work + o.work) (max deep o.depth) u
   after-more ties work deep path o u =
       let t = noted o.tie ties u.ties path in
       let w : work + (o.work + u.work) ≡ (work + o.work) + u.work = omega arith in
       let d : max deep (max o.depth u.depth) ≡ max (max deep o.depth) u.depth = omega arith in
       λ i. record { path = u.path; issuer = u.issuer; ties = t i; work = w i; depth = d i }
 
-  joining-none : (o : Outcome B) → o ≡ joining false 0 0 o
+  joining-none : (o : Outcome B) → o ≡ outcome_after false 0 0 o
   joining-none o =
       let w : o.work ≡ 0 + o.work = omega arith in
       let d : o.depth ≡ max 0 o.depth = omega arith in
       λ i. record { hash = o.hash; issuer = o.issuer; tie = o.tie; work = w i; depth = d i }
 
-  joining-more : (tie : Bool) (work deep : ℕ) (x : Choice B) (o : Outcome B) → joining tie work deep (outcome_more x o) ≡ joining (tie || x.tie) (work + x.work) (max deep x.depth) o
+  joining-more : (tie : Bool) (work deep : ℕ) (x : Choice B) (o : Outcome B) → outcome_after tie work deep (outcome_more x o) ≡ outcome_after (tie || x.tie) (work + x.work) (max deep x.depth) o
   joining-more tie work deep x o =
       let t = sym (or_assoc tie x.tie o.tie) in
       let w : work + (x.work + o.work) ≡ (work + x.work) + o.work = omega arith in
@@ -63,13 +64,13 @@ module _ {B : Type 0} where
       λ i. record { hash = o.hash; issuer = o.issuer; tie = t i; work = w i; depth = d i }
 
 module _ {B : Type 0} (v : Nodes B) (c : List B) where
-  pub walking-start : (i p : List B) (old depth limit : ℕ) → depth ≤ limit → Walking v c i p (first_path v c i p) (named_all v c i p) [] (newly_named v c i p) old old depth limit
+  pub walking-start : (i p : List B) (old depth limit : ℕ) → depth ≤ limit → Walking v c i p (first_path v c i p) (issuer_copy v c i p) [] (recursion_list v c i p) old old depth limit
   walking-start i p old depth limit fits =
       record { work = 0; deep = 0; goes_on = λ u n. subst (IsTrail v c i p) (after-none u) n; spent_is = omega arith; within = omega arith }
 
   walking-step : {i p : List B} {path : List ℕ} {now : List B} {ties : List (List ℕ)} {m : B} {ms : List B} {old spent depth limit : ℕ}
       → Walking v c i p path now ties (m ∷ ms) old spent depth limit → (o : Outcome B) → IsNDegree v c m now o → (new : ℕ) → new ≡ spent + o.work → depth + 1 + o.depth ≤ limit + 1
-      → Walking v c i p (path ++ entry v now m o.hash) o.issuer (if o.tie then ties ++ path ∷ [] else ties) ms old new depth limit
+      → Walking v c i p (path ++ path_part v now m o.hash) o.issuer (if o.tie then ties ++ path ∷ [] else ties) ms old new depth limit
   walking-step {i = i} {p = p} {path = path} {ties = ties} w o call new is fits =
       let s = w.spent_is in
       let d = w.within in
@@ -82,17 +83,17 @@ module _ {B : Type 0} (v : Nodes B) (c : List B) where
       }
 
   pub walking-turn : {i p : List B} {path : List ℕ} {now : List B} {ties : List (List ℕ)} {m : B} {ms : List B} {old spent new depth limit : ℕ} {hash : List ℕ} {issuer : List B} {tie : Bool}
-      → Walking v c i p path now ties (m ∷ ms) old spent depth limit → AnswersCall v c m now hash issuer tie spent new (depth + 1) limit
-      → Walking v c i p (path ++ entry v now m hash) issuer (if tie then ties ++ path ∷ [] else ties) ms old new depth limit
+      → Walking v c i p path now ties (m ∷ ms) old spent depth limit → AnswersCall v c m now (answer hash issuer tie) (spending_of spent new (depth + 1) limit)
+      → Walking v c i p (path ++ path_part v now m hash) issuer (if tie then ties ++ path ∷ [] else ties) ms old new depth limit
   walking-turn {new = new} w a = rw (a.hash_is, a.issuer_is, a.tie_is) (walking-step w a.outcome a.call new a.spent a.within)
 
   pub walking-end : {i p : List B} {path : List ℕ} {now : List B} {ties : List (List ℕ)} {old spent depth limit : ℕ}
-      → Walking v c i p path now ties [] old spent depth limit → AnswersTrail v c i p path now ties old spent depth limit
+      → Walking v c i p path now ties [] old spent depth limit → AnswersTrail v c i p (trail_answer path now ties) (spending_of old spent depth limit)
   walking-end {path = path} {now = now} {ties = ties} w =
       let s = w.spent_is in
       let d = w.within in
       record {
-        trail = after ties w.work w.deep (trail_end now path);
+        trail = trail_after ties w.work w.deep (trail_end now path);
         evaluated = w.goes_on (trail_end now path) refl;
         path_is = refl;
         issuer_is = refl;
@@ -123,9 +124,9 @@ module _ {B : Type 0} {v : Nodes B} (laws : AreNodes v) (c : List B) where
       → Walking v c i p path now ties (m ∷ ms) old spent depth limit → AreListed v ms → (o : Outcome B) → IsNDegree v c m now o
       → (t : Trail B) × IsTrail v c i p t × (spent + o.work ≤ old + t.work) × (o.depth ≤ t.depth)
   walking-complete {path = path} {now = now} {ties = ties} {m = m} {ms = ms} w listed o call =
-      let rest = nested-exists laws c o.issuer (path ++ entry v now m o.hash) ms listed in
+      let rest = nested-exists laws c o.issuer (path ++ path_part v now m o.hash) ms listed in
       let s = w.spent_is in (
-        after ties w.work w.deep (trail_more path o rest.0),
+        trail_after ties w.work w.deep (trail_more path o rest.0),
         w.goes_on (trail_more path o rest.0) record { outcome = o; rest = rest.0; called = call; goes_on = rest.1; is = refl },
         omega arith,
         omega arith,
@@ -159,7 +160,7 @@ module _ {B : Type 0} (v : Nodes B) (c : List B) where
 
   pub choosing-turn : {i members p : List B} {rest : List (List B)} {path : List ℕ} {issuer : List B} {sharing : ℕ} {ties : List (List ℕ)} {old spent new depth limit : ℕ} {its_path : List ℕ} {its_issuer : List B} {its_ties : List (List ℕ)}
       (path' : List ℕ) (issuer' : List B) (sharing' : ℕ) (ties' : List (List ℕ))
-      → Choosing v c i members (p ∷ rest) path issuer sharing ties old spent depth limit → AnswersTrail v c i p its_path its_issuer its_ties (spent + 1) new depth limit
+      → Choosing v c i members (p ∷ rest) path issuer sharing ties old spent depth limit → AnswersTrail v c i p (trail_answer its_path its_issuer its_ties) (spending_of (spent + 1) new depth limit)
       → ((ts : List (Trail B)) (t : Trail B) → IsBestOf ts path issuer sharing ties → its_path ≡ t.path → its_issuer ≡ t.issuer → its_ties ≡ t.ties → IsBestOf (ts ++ t ∷ []) path' issuer' sharing' ties')
       → Choosing v c i members rest path' issuer' sharing' ties' old new depth limit
   choosing-turn {i = i} {members = members} {p = p} {rest = rest} path' issuer' sharing' ties' k a takes =
@@ -181,7 +182,7 @@ module _ {B : Type 0} (v : Nodes B) (c : List B) where
 
   pub choosing-end : {i members : List B} {path : List ℕ} {issuer : List B} {sharing : ℕ} {ties : List (List ℕ)} {old spent depth limit : ℕ} {tie : Bool}
       → Choosing v c i members [] path issuer sharing ties old spent depth limit → tie ≡ (nat_lt 1 sharing || list_any (λ before. starts_with ◌==◌ path before) ties)
-      → AnswersChoice v c i members path issuer tie old spent depth limit
+      → AnswersChoice v c i members (choice_answer path issuer tie) (spending_of old spent depth limit)
   choosing-end {i = i} {members = members} {path = path} {issuer = issuer} {sharing = sharing} {ties = ties} k e =
       let all : AreArrangements members k.done = subst (AreArrangements members) (append-nil k.done) k.all in
       let some = AllZip-from_left (IsTrail v c i) k.done k.trails members k.evaluated (arrangements-some all) in
@@ -189,7 +190,7 @@ module _ {B : Type 0} (v : Nodes B) (c : List B) where
       let s = k.spent_is in
       let d = k.within in
       record {
-        choice = chosen a.best k.trails;
+        choice = choice_of a.best k.trails;
         is_choice = record {
           arrangements = k.done;
           trails = k.trails;
@@ -223,7 +224,7 @@ module _ {B : Type 0} {v : Nodes B} (laws : AreNodes v) (c : List B) where
       let s = k.spent_is in
       let w = total_work-append k.trails (t ∷ us.0) in
       let g = greatest_depth-append k.trails (t ∷ us.0) in (
-        chosen x.0 ts,
+        choice_of x.0 ts,
         x.1,
         omega arith,
         omega arith,
@@ -271,16 +272,16 @@ module _ {B : Type 0} (v : Nodes B) (c : List B) where
       }
 
   pub grouping-turn : {n : B} {i : List B} {text : List ℕ} {now : List B} {tie : Bool} {g : Group B} {gs : List (Group B)} {old spent new depth limit : ℕ} {path : List ℕ} {issuer : List B} {tied : Bool}
-      → Grouping v c n i text now tie (g ∷ gs) old spent depth limit → AnswersChoice v c now g.members path issuer tied spent new depth limit
+      → Grouping v c n i text now tie (g ∷ gs) old spent depth limit → AnswersChoice v c now g.members (choice_answer path issuer tied) (spending_of spent new depth limit)
       → Grouping v c n i (text ++ (g.hash ++ path)) issuer (tie || tied) gs old new depth limit
   grouping-turn {new = new} k a = rw (a.path_is, a.issuer_is, a.tie_is) (grouping-step k a.choice a.is_choice new a.spent a.within)
 
   pub grouping-end : {n : B} {i : List B} {text : List ℕ} {now : List B} {tie : Bool} {old spent depth limit : ℕ}
-      → Grouping v c n i text now tie [] old spent depth limit → AnswersCall v c n i (v.digest text) now tie old spent depth limit
+      → Grouping v c n i text now tie [] old spent depth limit → AnswersCall v c n i (answer (v.digest text) now tie) (spending_of old spent depth limit)
   grouping-end {n = n} {i = i} {text = text} {now = now} {tie = tie} k =
       let s = k.spent_is in
       let d = k.within in
-      let inner = joining tie k.work k.deep (outcome_end v text now) in
+      let inner = outcome_after tie k.work k.deep (outcome_end v text now) in
       record {
         outcome = one_deeper inner;
         call = call-fold v c n i (one_deeper inner) record { inner = inner; groups = k.goes_on (outcome_end v text now) refl; is = refl };
@@ -300,7 +301,7 @@ module _ {B : Type 0} {v : Nodes B} (laws : AreNodes v) (c : List B) where
       → (o : Outcome B) × IsNDegree v c n i o × (spent + x.work ≤ old + o.work) × (x.depth < o.depth)
   grouping-complete {n = n} {i = i} {text = text} {tie = tie} {g = g} {gs = gs} k listed x is_choice =
       let rest = groups-exist laws c (text ++ (g.hash ++ x.path)) x.issuer gs listed in
-      let inner = joining tie k.work k.deep (outcome_more x rest.0) in
+      let inner = outcome_after tie k.work k.deep (outcome_more x rest.0) in
       let s = k.spent_is in (
         one_deeper inner,
         call-fold v c n i (one_deeper inner) record { inner = inner; groups = k.goes_on (outcome_more x rest.0) record { choice = x; rest = rest.0; is_choice = is_choice; goes_on = rest.1; is = refl }; is = refl },

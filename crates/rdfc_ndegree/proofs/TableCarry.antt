@@ -16,7 +16,8 @@ use Rattle.nquads.specs.Renaming.{same_blank, StandsIn}
 use Rattle.nquads.specs.FirstDegree.{blanks}
 use Rattle.nquads.proofs.ReadingElements.{AllDiffer-nil, AllDiffer-cons}
 use Rattle.nquads.proofs.ReadingBlanks.{same_blank-true, same_blank-false, same_blank-itself}
-use Rattle.rdfc_ndegree.specs.Nodes.{Occurrence, AreNodes}
+use Rattle.rdfc_ndegree.specs.Nodes.{Occurrence}
+use Rattle.rdfc_ndegree.specs.Internal.Nodes.{AreNodes}
 use Rattle.rdfc_ndegree.specs.Datasets.{related_in, nodes_of}
 use Rattle.rdfc_ndegree.specs.Table.{numbers_below, occurrence_of, first_in, related_in_row, table_nodes, IsClosed}
 use Rattle.rdfc_ndegree.specs.TableOf.{IsOccurrence, IsRowOf, IsTableOf}
@@ -26,7 +27,7 @@ use Rattle.rdfc_ndegree.proofs.CarryBasics.{AllDiffer-permutation, IsPermutation
 use Rattle.rdfc_ndegree.proofs.Lawful.{blanks-all, AllDiffer-blanks}
 use Rattle.rdfc_ndegree.specs.Issuers.{number, canonical_id}
 use Rattle.rdfc_ndegree.specs.NDegree.{Outcome, IsNDegree}
-use Rattle.rdfc_ndegree.specs.Run.{Result, IsRun, MeetsTie, WorkOver, DepthOver, WithinLimits, HasLabels}
+use Rattle.rdfc_ndegree.specs.Run.{RunOutcome, IsRun, MeetsTie, WorkOver, DepthOver, WithinLimits, IsCanonicalIssuer}
 use Rattle.rdfc_ndegree.proofs.Carry.{carried, outcome_f, Carries, Carries-back, all-back, number-carried, canonical_id-carried, IsNDegree-carried}
 use Rattle.rdfc_ndegree.proofs.RunCarry.{result_f, IsRun-carried, IsRun-inside, MeetsTie-carried, WorkOver-carried, DepthOver-carried, WithinLimits-carried, HasLabels-carried}
 
@@ -177,7 +178,7 @@ module _ (q : List Statement) (bs : List Blank) (rows : List NodeRow) (t : IsTab
   table-canonical_id = canonical_id-carried (at bs) (λ k. k < length rows) (table_nodes rows) (nodes_of sha256_digits q) (table-carries q bs rows t)
 
   module _ (h : All (StandsIn q) bs) where
-    pub table-IsRun : (r : Result ℕ) → IsRun (table_nodes rows) r → IsRun (nodes_of sha256_digits q) (result_f (at bs) r)
+    pub table-IsRun : (r : RunOutcome ℕ) → IsRun (table_nodes rows) r → IsRun (nodes_of sha256_digits q) (result_f (at bs) r)
     table-IsRun = IsRun-carried (at bs) (λ k. k < length rows) (table_nodes rows) (nodes_of sha256_digits q) (table-carries q bs rows t) (table-all-carried q bs rows t h) (table-all-inside rows)
 
     pub table-MeetsTie : MeetsTie (table_nodes rows) → MeetsTie (nodes_of sha256_digits q)
@@ -189,14 +190,14 @@ module _ (q : List Statement) (bs : List Blank) (rows : List NodeRow) (t : IsTab
     pub table-DepthOver : (n : ℕ) → DepthOver (table_nodes rows) n → DepthOver (nodes_of sha256_digits q) n
     table-DepthOver = DepthOver-carried (at bs) (λ k. k < length rows) (table_nodes rows) (nodes_of sha256_digits q) (table-carries q bs rows t) (table-all-carried q bs rows t h) (table-all-inside rows)
 
-    pub table-HasLabels : (c : List ℕ) → HasLabels (table_nodes rows) c → HasLabels (nodes_of sha256_digits q) (map (at bs) c)
+    pub table-HasLabels : (c : List ℕ) → IsCanonicalIssuer (table_nodes rows) c → IsCanonicalIssuer (nodes_of sha256_digits q) (map (at bs) c)
     table-HasLabels = HasLabels-carried (at bs) (λ k. k < length rows) (table_nodes rows) (nodes_of sha256_digits q) (table-carries q bs rows t) (table-all-carried q bs rows t h) (table-all-inside rows)
 
     pub table-WithinLimits : (work depth : ℕ) → WithinLimits (nodes_of sha256_digits q) work depth → WithinLimits (table_nodes rows) work depth
     table-WithinLimits = WithinLimits-carried (at bs) (λ k. k < length rows) (table_nodes rows) (nodes_of sha256_digits q) (table-carries q bs rows t) (table-all-carried q bs rows t h) (table-all-inside rows)
 
     -- the nodes that a run names are rows of the table
-    pub table-issuer : (r : Result ℕ) → IsRun (table_nodes rows) r → AllByRecursion (λ k. k < length rows) r.issuer
+    pub table-issuer : (r : RunOutcome ℕ) → IsRun (table_nodes rows) r → AllByRecursion (λ k. k < length rows) r.issuer
     table-issuer = IsRun-inside (at bs) (λ k. k < length rows) (table_nodes rows) (nodes_of sha256_digits q) (table-carries q bs rows t) (table-all-carried q bs rows t h) (table-all-inside rows)
 
 -- ---- and back
@@ -254,5 +255,5 @@ module _ (q : List Statement) (bs : List Blank) (rows : List NodeRow) (t : IsTab
     pub table-WithinLimits-iff : (work depth : ℕ) → WithinLimits (table_nodes rows) work depth ↔ WithinLimits (nodes_of sha256_digits q) work depth
     table-WithinLimits-iff work depth = (WithinLimits-carried (place_in bs) (Contains bs) (nodes_of sha256_digits q) (table_nodes rows) dataset-carries dataset-all-carried dataset-all-inside work depth, table-WithinLimits q bs rows t h work depth)
 
-    pub dataset-HasLabels : (c : List Blank) → HasLabels (nodes_of sha256_digits q) c → HasLabels (table_nodes rows) (map (place_in bs) c)
+    pub dataset-HasLabels : (c : List Blank) → IsCanonicalIssuer (nodes_of sha256_digits q) c → IsCanonicalIssuer (table_nodes rows) (map (place_in bs) c)
     dataset-HasLabels = HasLabels-carried (place_in bs) (Contains bs) (nodes_of sha256_digits q) (table_nodes rows) dataset-carries dataset-all-carried dataset-all-inside

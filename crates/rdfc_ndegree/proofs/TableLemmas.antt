@@ -23,16 +23,16 @@ use Rattle.nquads.specs.declared.quads.TextQuad.{TextQuad}
 use Rattle.nquads.proofs.ReadingTerms.{blank_text_one_reading}
 use Rattle.nquads.proofs.ReadingBlanks.{same_blank-true, same_blank-false, to_blanks_in}
 use Rattle.nquads.proofs.ReadingElements.{AllDiffer-nil, AllDiffer-cons, AllDiffer-head, AllDiffer-tail}
-use Rattle.rdfc_ndegree.specs.Nodes.{as_subject, as_object, as_graph}
+use Rattle.rdfc_ndegree.specs.declared.table.Position.TheVariants as position
 use Rattle.rdfc_ndegree.specs.Datasets.{occurrence, occurrences_at, occurrences_in, related_in}
-use Rattle.rdfc_ndegree.specs.Table.{position_of, occurrence_of, IsClosed}
+use Rattle.rdfc_ndegree.specs.Table.{occurrence_of, IsClosed}
 use Rattle.rdfc_ndegree.specs.TableOf.{IsOccurrence, IsRowOf, IsTableWith}
 use Rattle.rdfc_ndegree.specs.declared.building.Parts.{Parts}
-use Rattle.rdfc_ndegree.specs.declared.table.Place.{Place}
-use Rattle.rdfc_ndegree.specs.declared.table.Place.TheVariants as place
+use Rattle.rdfc_ndegree.specs.declared.table.Position.{Position}
 use Rattle.rdfc_ndegree.specs.declared.table.Related.{Related}
 use Rattle.rdfc_ndegree.specs.declared.table.NodeRow.{NodeRow}
-use Rattle.rdfc_ndegree.specs.Building.{number_among, names_of, new_row, with_row, with_rows, unknown, parts_of, links_at, links, more, related_at, node_related, object_related, relate, related_all}
+use Rattle.rdfc_ndegree.specs.Table.{number_among, names_of}
+use Rattle.rdfc_ndegree.specs.Internal.Building.{new_row, with_row, with_rows, unused_name, parts_by_number, related_nodes_at, related_nodes, with_related, relate_row, relate_node, relate_object, relate_parts, relate_all}
 use Rattle.rdfc_ndegree.proofs.Basics.{AllZip-append}
 use Rattle.rdfc_ndegree.proofs.CarryBasics.{Each-append, Each-from_contains, Each-weaker, map-map}
 use Rattle.rdfc_ndegree.proofs.BuildLemmas.{number-get, number-below, number-there, number-None, number-Some, is_at, stands, given, gets-all, names-all, names-append, others-named}
@@ -53,48 +53,48 @@ RelatedBelow n rs = AllByRecursion (λ (r : Related). r.node < n) rs
 abbrev RowsBelow : ℕ → List NodeRow → Type 0
 RowsBelow n rows = AllByRecursion (λ (row : NodeRow). RelatedBelow n row.related) rows
 
-parts-below : (names : List (List ℕ)) (quad : TextQuad) → PartsBelow (length names) (parts_of names quad)
+parts-below : (names : List (List ℕ)) (quad : TextQuad) → PartsBelow (length names) (parts_by_number names quad)
 parts-below names quad = record { subject = number-below names quad.subject; object = number-below names quad.object; graph = of_graph quad.graph }
   where
     of_graph : (g : Option (List ℕ)) → Below (length names) (option_and_then (number_among names) g)
     of_graph None k e = absurd (cc)
     of_graph (Some g) k e = number-below names g k e
 
-links_at-below : (n m : ℕ) (place : Place) (predicate : List ℕ) (o : Option ℕ) → Below n o → RelatedBelow n (links_at m place predicate o)
-links_at-below n m place predicate None h = tt
-links_at-below n m place predicate (Some k) h = go (k == m)
+links_at-below : (n m : ℕ) (position : Position) (predicate : List ℕ) (o : Option ℕ) → Below n o → RelatedBelow n (related_nodes_at m position predicate o)
+links_at-below n m position predicate None h = tt
+links_at-below n m position predicate (Some k) h = go (k == m)
   where
-    go : (t : Bool) → RelatedBelow n (cond t [] (record { place = place; predicate = predicate; node = k } ∷ []))
+    go : (t : Bool) → RelatedBelow n (cond t [] (record { position = position; predicate = predicate; node = k } ∷ []))
     go true = tt
     go false = (h k refl, tt)
 
-links-below : (n m : ℕ) (p : Parts) → PartsBelow n p → RelatedBelow n (links m p)
+links-below : (n m : ℕ) (p : Parts) → PartsBelow n p → RelatedBelow n (related_nodes m p)
 links-below n m p h =
-    Each-append (λ (r : Related). r.node < n) (links_at m place.Subject p.predicate p.subject) (links_at m place.Object p.predicate p.object ++ links_at m place.Graph p.predicate p.graph) (links_at-below n m place.Subject p.predicate p.subject h.subject)
-    (Each-append (λ (r : Related). r.node < n) (links_at m place.Object p.predicate p.object) (links_at m place.Graph p.predicate p.graph) (links_at-below n m place.Object p.predicate p.object h.object) (links_at-below n m place.Graph p.predicate p.graph h.graph))
+    Each-append (λ (r : Related). r.node < n) (related_nodes_at m position.Subject p.predicate p.subject) (related_nodes_at m position.Object p.predicate p.object ++ related_nodes_at m position.Graph p.predicate p.graph) (links_at-below n m position.Subject p.predicate p.subject h.subject)
+    (Each-append (λ (r : Related). r.node < n) (related_nodes_at m position.Object p.predicate p.object) (related_nodes_at m position.Graph p.predicate p.graph) (links_at-below n m position.Object p.predicate p.object h.object) (links_at-below n m position.Graph p.predicate p.graph h.graph))
 
-related_at-below : (n : ℕ) (rows : List NodeRow) (m : ℕ) (rs : List Related) → RowsBelow n rows → RelatedBelow n rs → RowsBelow n (related_at rows m rs)
+related_at-below : (n : ℕ) (rows : List NodeRow) (m : ℕ) (rs : List Related) → RowsBelow n rows → RelatedBelow n rs → RowsBelow n (relate_row rows m rs)
 related_at-below n [] m rs h k = tt
 related_at-below n (row ∷ rows) zero rs h k = (Each-append (λ (r : Related). r.node < n) row.related rs h.0 k, h.1)
 related_at-below n (row ∷ rows) (suc m) rs h k = (h.0, related_at-below n rows m rs h.1 k)
 
-node-below : (n : ℕ) (rows : List NodeRow) (o : Option ℕ) (p : Parts) → RowsBelow n rows → PartsBelow n p → RowsBelow n (node_related rows o p)
+node-below : (n : ℕ) (rows : List NodeRow) (o : Option ℕ) (p : Parts) → RowsBelow n rows → PartsBelow n p → RowsBelow n (relate_node rows o p)
 node-below n rows None p h k = h
-node-below n rows (Some m) p h k = related_at-below n rows m (links m p) h (links-below n m p k)
+node-below n rows (Some m) p h k = related_at-below n rows m (related_nodes m p) h (links-below n m p k)
 
-if-below : (n : ℕ) (t : Bool) (rows : List NodeRow) (o : Option ℕ) (p : Parts) → RowsBelow n rows → PartsBelow n p → RowsBelow n (cond t rows (node_related rows o p))
+if-below : (n : ℕ) (t : Bool) (rows : List NodeRow) (o : Option ℕ) (p : Parts) → RowsBelow n rows → PartsBelow n p → RowsBelow n (cond t rows (relate_node rows o p))
 if-below n true rows o p h k = h
 if-below n false rows o p h k = node-below n rows o p h k
 
-relate-below : (n : ℕ) (rows : List NodeRow) (p : Parts) → RowsBelow n rows → PartsBelow n p → RowsBelow n (relate rows p)
+relate-below : (n : ℕ) (rows : List NodeRow) (p : Parts) → RowsBelow n rows → PartsBelow n p → RowsBelow n (relate_parts rows p)
 relate-below n rows p h k =
-    let one = node_related rows p.subject p in
-    let two = object_related one p in
+    let one = relate_node rows p.subject p in
+    let two = relate_object one p in
     if-below n _ two p.graph p (if-below n _ one p.object p (node-below n rows p.subject p h k) k) k
 
-all-below : (names : List (List ℕ)) (rows : List NodeRow) (quads : List TextQuad) → RowsBelow (length names) rows → RowsBelow (length names) (related_all rows (map (parts_of names) quads))
+all-below : (names : List (List ℕ)) (rows : List NodeRow) (quads : List TextQuad) → RowsBelow (length names) rows → RowsBelow (length names) (relate_all rows (map (parts_by_number names) quads))
 all-below names rows [] h = h
-all-below names rows (quad ∷ quads) h = all-below names (relate rows (parts_of names quad)) quads (relate-below (length names) rows (parts_of names quad) h (parts-below names quad))
+all-below names rows (quad ∷ quads) h = all-below names (relate_parts rows (parts_by_number names quad)) quads (relate-below (length names) rows (parts_by_number names quad) h (parts-below names quad))
 
 pub length-names : (rows : List NodeRow) → length (names_of rows) ≡ length rows
 length-names [] = refl
@@ -113,21 +113,21 @@ with_rows-below n rows (h ∷ hs) b = with_rows-below n (with_row rows h) hs (wi
 
 -- the built rows, of texts alone
 abbrev pub built : List TextQuad → List BlankHash → List (List ℕ) → List NodeRow
-built quads firsts others = related_all (with_rows (with_rows [] firsts) (map unknown others)) (map (parts_of (names_of (with_rows (with_rows [] firsts) (map unknown others)))) quads)
+built quads firsts others = relate_all (with_rows (with_rows [] firsts) (map unused_name others)) (map (parts_by_number (names_of (with_rows (with_rows [] firsts) (map unused_name others)))) quads)
 
 -- the rows that the steps of the program give, one after another
-pub built-made : {start first second last : List NodeRow} {names : List (List ℕ)} {slice quads : List TextQuad} (firsts : List BlankHash) (others : List (List ℕ)) → start ≡ [] → first ≡ with_rows start firsts → second ≡ with_rows first (map unknown others) → names ≡ names_of second → slice ≡ quads → last ≡ related_all second (map (parts_of names) slice) → last ≡ built quads firsts others
+pub built-made : {start first second last : List NodeRow} {names : List (List ℕ)} {slice quads : List TextQuad} (firsts : List BlankHash) (others : List (List ℕ)) → start ≡ [] → first ≡ with_rows start firsts → second ≡ with_rows first (map unused_name others) → names ≡ names_of second → slice ≡ quads → last ≡ relate_all second (map (parts_by_number names) slice) → last ≡ built quads firsts others
 built-made firsts others none one two names_are same last_is =
-    let rows = two ∙ ap (λ rows. with_rows rows (map unknown others)) (one ∙ ap (λ rows. with_rows rows firsts) none) in
+    let rows = two ∙ ap (λ rows. with_rows rows (map unused_name others)) (one ∙ ap (λ rows. with_rows rows firsts) none) in
     let names = names_are ∙ ap names_of rows in
-    last_is ∙ (λ i. related_all (rows i) (map (parts_of (names i)) (same i)))
+    last_is ∙ (λ i. relate_all (rows i) (map (parts_by_number (names i)) (same i)))
 
 pub built-closed : (quads : List TextQuad) (firsts : List BlankHash) (others : List (List ℕ)) → IsClosed (built quads firsts others)
 built-closed quads firsts others =
-    let rows = with_rows (with_rows [] firsts) (map unknown others) in
+    let rows = with_rows (with_rows [] firsts) (map unused_name others) in
     let names = names_of rows in
-    let long : length names ≡ length (built quads firsts others) = ap length (sym (names-all rows (map (parts_of names) quads))) ∙ length-names (built quads firsts others) in
-    let below : RowsBelow (length names) (built quads firsts others) = all-below names rows quads (with_rows-below (length names) (with_rows [] firsts) (map unknown others) (with_rows-below (length names) [] firsts tt)) in
+    let long : length names ≡ length (built quads firsts others) = ap length (sym (names-all rows (map (parts_by_number names) quads))) ∙ length-names (built quads firsts others) in
+    let below : RowsBelow (length names) (built quads firsts others) = all-below names rows quads (with_rows-below (length names) (with_rows [] firsts) (map unused_name others) (with_rows-below (length names) [] firsts tt)) in
     let moved : RowsBelow (length (built quads firsts others)) (built quads firsts others) = subst (λ n. RowsBelow n (built quads firsts others)) long below in
     All-from_recursion (λ (row : NodeRow). All (λ (r : Related). r.node < length (built quads firsts others)) row.related) (built quads firsts others)
     (Each-weaker (λ (row : NodeRow). RelatedBelow (length (built quads firsts others)) row.related) (λ (row : NodeRow). All (λ (r : Related). r.node < length (built quads firsts others)) row.related) (λ row h. All-from_recursion (λ (r : Related). r.node < length (built quads firsts others)) row.related h) (built quads firsts others) moved)
@@ -200,23 +200,23 @@ module _ (bs : List Blank) (differ : AllDiffer bs) (k : ℕ) (b : Blank) (at_k :
   graph_at None h = refl
   graph_at (Some t) h = part_at t h
 
-  part_links : (place : Place) (predicate : List ℕ) (t : Term) → InBlanks (blanks_of_term t) → AllZip (IsOccurrence bs) (map occurrence_of (links_at k place predicate (number_among (map blank_text bs) (spelling t)))) (occurrences_at b (position_of place) predicate (blanks_of_term t))
-  part_links place predicate (iri text) h = subst (λ o. AllZip (IsOccurrence bs) (map occurrence_of (links_at k place predicate o)) []) (sym (no_name (iri text) bs (λ c. refl))) tt
-  part_links place predicate (literal text datatype language) h = subst (λ o. AllZip (IsOccurrence bs) (map occurrence_of (links_at k place predicate o)) []) (sym (no_name (literal text datatype language) bs (λ c. refl))) tt
-  part_links place predicate (blank c) h =
+  part_links : (position : Position) (predicate : List ℕ) (t : Term) → InBlanks (blanks_of_term t) → AllZip (IsOccurrence bs) (map occurrence_of (related_nodes_at k position predicate (number_among (map blank_text bs) (spelling t)))) (occurrences_at b position predicate (blanks_of_term t))
+  part_links position predicate (iri text) h = subst (λ o. AllZip (IsOccurrence bs) (map occurrence_of (related_nodes_at k position predicate o)) []) (sym (no_name (iri text) bs (λ c. refl))) tt
+  part_links position predicate (literal text datatype language) h = subst (λ o. AllZip (IsOccurrence bs) (map occurrence_of (related_nodes_at k position predicate o)) []) (sym (no_name (literal text datatype language) bs (λ c. refl))) tt
+  part_links position predicate (blank c) h =
       let j = numbered_blank bs c (h c (Contains-here c [])) in
-      subst (λ o. AllZip (IsOccurrence bs) (map occurrence_of (links_at k place predicate o)) (occurrences_at b (position_of place) predicate (c ∷ []))) (sym j.1)
+      subst (λ o. AllZip (IsOccurrence bs) (map occurrence_of (related_nodes_at k position predicate o)) (occurrences_at b position predicate (c ∷ []))) (sym j.1)
       (go j.0 j.2 (j.0 == k) (same_blank b c) (same_number j.0 c j.2))
     where
-      go : (j : ℕ) → slice_get bs j ≡ Some c → (t u : Bool) → t ≡ u → AllZip (IsOccurrence bs) (map occurrence_of (cond t [] (record { place = place; predicate = predicate; node = j } ∷ []))) (map (occurrence (position_of place) predicate) (cond (not u) (c ∷ []) []))
+      go : (j : ℕ) → slice_get bs j ≡ Some c → (t u : Bool) → t ≡ u → AllZip (IsOccurrence bs) (map occurrence_of (cond t [] (record { position = position; predicate = predicate; node = j } ∷ []))) (map (occurrence position predicate) (cond (not u) (c ∷ []) []))
       go j at_j true true e = tt
       go j at_j true false e = absurd (false≢true (sym e))
       go j at_j false true e = absurd (false≢true e)
       go j at_j false false e = (record { position = refl; predicate = refl; blank = at_j }, tt)
 
-  graph_links : (predicate : List ℕ) (g : Option Term) → InBlanks (blanks_of_graph g) → AllZip (IsOccurrence bs) (map occurrence_of (links_at k place.Graph predicate (option_and_then (number_among (map blank_text bs)) (option_map spelling g)))) (occurrences_at b as_graph predicate (blanks_of_graph g))
+  graph_links : (predicate : List ℕ) (g : Option Term) → InBlanks (blanks_of_graph g) → AllZip (IsOccurrence bs) (map occurrence_of (related_nodes_at k position.Graph predicate (option_and_then (number_among (map blank_text bs)) (option_map spelling g)))) (occurrences_at b position.Graph predicate (blanks_of_graph g))
   graph_links predicate None h = tt
-  graph_links predicate (Some t) h = part_links place.Graph predicate t h
+  graph_links predicate (Some t) h = part_links position.Graph predicate t h
 
   within_subject : (s : Statement) → InBlanks (blanks_of s) → InBlanks (blanks_of_term s.subject)
   within_subject s h c m = h c (Contains-append_left (blanks_of_term s.subject) (blanks_of_term s.object ++ blanks_of_graph s.graph) c m)
@@ -228,7 +228,7 @@ module _ (bs : List Blank) (differ : AllDiffer bs) (k : ℕ) (b : Blank) (at_k :
   within_graph s h c m = h c (Contains-append_right (blanks_of_term s.subject) (blanks_of_term s.object ++ blanks_of_graph s.graph) c (Contains-append_right (blanks_of_term s.object) (blanks_of_graph s.graph) c m))
 
   abbrev numbers : Statement → Parts
-  numbers s = parts_of (map blank_text bs) (text_quad s)
+  numbers s = parts_by_number (map blank_text bs) (text_quad s)
 
   stands-mentions : (s : Statement) → InBlanks (blanks_of s) → stands k (numbers s) ≡ mentions b s
   unfolding stands
@@ -239,21 +239,21 @@ module _ (bs : List Blank) (differ : AllDiffer bs) (k : ℕ) (b : Blank) (at_k :
       ∙ or_assoc (list_any (same_blank b) (blanks_of_term s.subject)) (list_any (same_blank b) (blanks_of_term s.object)) (list_any (same_blank b) (blanks_of_graph s.graph))
       ∙ sym (whole ∙ ap (λ t. list_any (same_blank b) (blanks_of_term s.subject) || t) rest)
 
-  statement_links : (s : Statement) → InBlanks (blanks_of s) → AllZip (IsOccurrence bs) (map occurrence_of (links k (numbers s))) (occurrences_in b s)
+  statement_links : (s : Statement) → InBlanks (blanks_of s) → AllZip (IsOccurrence bs) (map occurrence_of (related_nodes k (numbers s))) (occurrences_in b s)
   statement_links s h =
       let p = numbers s in
-      let a = links_at k place.Subject p.predicate p.subject in
-      let d = links_at k place.Object p.predicate p.object in
-      let e = links_at k place.Graph p.predicate p.graph in
-      let u = occurrences_at b as_subject (iri_text s.predicate) (blanks_of_term s.subject) in
-      let v = occurrences_at b as_object (iri_text s.predicate) (blanks_of_term s.object) in
-      let w = occurrences_at b as_graph (iri_text s.predicate) (blanks_of_graph s.graph) in
+      let a = related_nodes_at k position.Subject p.predicate p.subject in
+      let d = related_nodes_at k position.Object p.predicate p.object in
+      let e = related_nodes_at k position.Graph p.predicate p.graph in
+      let u = occurrences_at b position.Subject (iri_text s.predicate) (blanks_of_term s.subject) in
+      let v = occurrences_at b position.Object (iri_text s.predicate) (blanks_of_term s.object) in
+      let w = occurrences_at b position.Graph (iri_text s.predicate) (blanks_of_graph s.graph) in
       let split : map occurrence_of (a ++ (d ++ e)) ≡ map occurrence_of a ++ (map occurrence_of d ++ map occurrence_of e) = map-append occurrence_of a (d ++ e) ∙ ap (λ os. map occurrence_of a ++ os) (map-append occurrence_of d e) in
       subst (λ os. AllZip (IsOccurrence bs) os (u ++ (v ++ w))) (sym split)
       (AllZip-append (IsOccurrence bs) (map occurrence_of a) (map occurrence_of d ++ map occurrence_of e) u (v ++ w)
-      (part_links place.Subject (iri_text s.predicate) s.subject (within_subject s h))
+      (part_links position.Subject (iri_text s.predicate) s.subject (within_subject s h))
       (AllZip-append (IsOccurrence bs) (map occurrence_of d) (map occurrence_of e) v w
-      (part_links place.Object (iri_text s.predicate) s.object (within_object s h))
+      (part_links position.Object (iri_text s.predicate) s.object (within_object s h))
       (graph_links (iri_text s.predicate) s.graph (within_graph s h))))
 
   dataset_links : (q : List Statement) → ((s : Statement) → Contains q s → InBlanks (blanks_of s)) → AllZip (IsOccurrence bs) (map occurrence_of (flat_map (given k) (map numbers q))) (related_in q b)
@@ -265,8 +265,8 @@ module _ (bs : List Blank) (differ : AllDiffer bs) (k : ℕ) (b : Blank) (at_k :
       subst (λ os. AllZip (IsOccurrence bs) os (related_in (s ∷ q) b)) (sym split)
       (go (stands k (numbers s)) (mentions b s) (stands-mentions s within) (statement_links s within) rest)
     where
-      go : (t u : Bool) → t ≡ u → AllZip (IsOccurrence bs) (map occurrence_of (links k (numbers s))) (occurrences_in b s) → AllZip (IsOccurrence bs) (map occurrence_of (flat_map (given k) (map numbers q))) (related_in q b) → AllZip (IsOccurrence bs) (map occurrence_of (cond t (links k (numbers s)) []) ++ map occurrence_of (flat_map (given k) (map numbers q))) (flat_map (occurrences_in b) (cond u (s ∷ mention_set q b) (mention_set q b)))
-      go true true e first rest = AllZip-append (IsOccurrence bs) (map occurrence_of (links k (numbers s))) (map occurrence_of (flat_map (given k) (map numbers q))) (occurrences_in b s) (related_in q b) first rest
+      go : (t u : Bool) → t ≡ u → AllZip (IsOccurrence bs) (map occurrence_of (related_nodes k (numbers s))) (occurrences_in b s) → AllZip (IsOccurrence bs) (map occurrence_of (flat_map (given k) (map numbers q))) (related_in q b) → AllZip (IsOccurrence bs) (map occurrence_of (cond t (related_nodes k (numbers s)) []) ++ map occurrence_of (flat_map (given k) (map numbers q))) (flat_map (occurrences_in b) (cond u (s ∷ about q b) (about q b)))
+      go true true e first rest = AllZip-append (IsOccurrence bs) (map occurrence_of (related_nodes k (numbers s))) (map occurrence_of (flat_map (given k) (map numbers q))) (occurrences_in b s) (related_in q b) first rest
       go true false e first rest = absurd (false≢true (sym e))
       go false true e first rest = absurd (false≢true e)
       go false false e first rest = rest
@@ -351,18 +351,18 @@ module _ (q : List Statement) (firsts : List BlankHash) (cs : List Blank) where
       ])
       (differ-push xs x (AllDiffer-tail y xs a) (λ m. free (Contains-there y xs x m)))
 
-  unknown_row : (b : Blank) → (StandsIn q b → ⊥) → new_row (unknown (blank_text b)) ≡ bare b
+  unknown_row : (b : Blank) → (StandsIn q b → ⊥) → new_row (unused_name (blank_text b)) ≡ bare b
   unknown_row b free =
       let nothing : mention_set q b ≡ [] = about-nothing q b (λ s m n. free (to_blanks_in q s b m n)) in
       ap (λ ss. record { blank = blank_text b; first = sha256_digits (concat (in_order (map (line (mark b)) ss))); related = [] }) (sym nothing)
 
-  one_more : (rows : List NodeRow) (u : Blank) → IsState rows → Contains cs u → IsState (with_row rows (unknown (blank_text u)))
+  one_more : (rows : List NodeRow) (u : Blank) → IsState rows → Contains cs u → IsState (with_row rows (unused_name (blank_text u)))
   one_more rows u s within = go (number_among (names_of rows) (blank_text u)) refl
     where
-      go : (o : Option ℕ) → number_among (names_of rows) (blank_text u) ≡ o → IsState (cond (is_some o) rows (rows ++ new_row (unknown (blank_text u)) ∷ []))
+      go : (o : Option ℕ) → number_among (names_of rows) (blank_text u) ≡ o → IsState (cond (is_some o) rows (rows ++ new_row (unused_name (blank_text u)) ∷ []))
       go (Some k) e = s
       go None e =
-          let row = new_row (unknown (blank_text u)) in
+          let row = new_row (unused_name (blank_text u)) in
           let absent = number-None (names_of rows) (blank_text u) e in
           let names : names_of (rows ++ row ∷ []) ≡ names_of rows ++ blank_text u ∷ [] = names-append rows row in
           record {
@@ -373,9 +373,9 @@ module _ (q : List Statement) (firsts : List BlankHash) (cs : List Blank) where
             order = names ∙ ap (λ ns. ns ++ blank_text u ∷ []) s.order ∙ append_assoc (map (λ (h : BlankHash). h.blank) firsts) s.rest (blank_text u ∷ []);
           }
 
-  all_more : (rows : List NodeRow) (us : List Blank) → IsState rows → ((u : Blank) → Contains us u → Contains cs u) → IsState (with_rows rows (map unknown (map blank_text us)))
+  all_more : (rows : List NodeRow) (us : List Blank) → IsState rows → ((u : Blank) → Contains us u → Contains cs u) → IsState (with_rows rows (map unused_name (map blank_text us)))
   all_more rows [] s within = s
-  all_more rows (u ∷ us) s within = all_more (with_row rows (unknown (blank_text u))) us (one_more rows u s (within u (Contains-here u us))) (λ v m. within v (Contains-there u us v m))
+  all_more rows (u ∷ us) s within = all_more (with_row rows (unused_name (blank_text u))) us (one_more rows u s (within u (Contains-here u us))) (λ v m. within v (Contains-there u us v m))
 
   -- the blank nodes of the rows
   record Drawn (rows : List NodeRow) : Type 0 where
@@ -416,27 +416,27 @@ zip-find R (w ∷ xs) (y ∷ ys) (suc k) x z e = zip-find R xs ys k x z.1 e
 
 -- ---- the table
 
-built_table : (q : List Statement) (firsts : List BlankHash) (cs : List Blank) (rows : List NodeRow) → IsState q firsts cs rows → ((u : Blank) → Contains cs u → Contains (names_of rows) (blank_text u)) → IsTableWith q firsts cs (related_all rows (map (parts_of (names_of rows)) (map text_quad q)))
+built_table : (q : List Statement) (firsts : List BlankHash) (cs : List Blank) (rows : List NodeRow) → IsState q firsts cs rows → ((u : Blank) → Contains cs u → Contains (names_of rows) (blank_text u)) → IsTableWith q firsts cs (relate_all rows (map (parts_by_number (names_of rows)) (map text_quad q)))
 built_table q firsts cs rows s there =
     let d = drawn q firsts cs rows s.good in
     let bs = d.nodes in
-    let ps = map (parts_of (names_of rows)) (map text_quad q) in
+    let ps = map (parts_by_number (names_of rows)) (map text_quad q) in
     let differ : AllDiffer bs = differ-from_map blank_text bs (subst AllDiffer d.names s.differ) in
     let covers : (b : Blank) → StandsIn q b → Contains bs b = λ b stands. named_there bs b (subst (λ ns. Contains ns (blank_text b)) d.names (s.covers b stands)) in
     let within : (t : Statement) → Contains q t → (c : Blank) → Contains (blanks_of t) c → Contains bs c = λ t m c n. covers c (to_blanks_in q t c m n) in
-    let long : length bs ≡ length (related_all rows ps) = sym (length-map bs blank_text) ∙ ap length (sym d.names) ∙ ap length (sym (names-all rows ps)) ∙ length-names (related_all rows ps) in
+    let long : length bs ≡ length (relate_all rows ps) = sym (length-map bs blank_text) ∙ ap length (sym d.names) ∙ ap length (sym (names-all rows ps)) ∙ length-names (relate_all rows ps) in
     record {
       nodes = bs;
       table = record {
         differ = differ;
         covers = covers;
-        each = zip-build (IsRowOf q bs) bs (related_all rows ps) long (λ k b at_k.
+        each = zip-build (IsRowOf q bs) bs (relate_all rows ps) long (λ k b at_k.
             let found = zip-find (λ b row. row ≡ bare q firsts cs b) bs rows k b d.zip at_k in
-            let last : slice_get (related_all rows ps) k ≡ Some (more found.0 (flat_map (given k) ps)) = gets-all rows ps k ∙ ap (option_map (λ (r : NodeRow). more r (flat_map (given k) ps))) found.1 in
-            let numbered : ps ≡ map (λ t. parts_of (map blank_text bs) (text_quad t)) q = ap (λ ns. map (parts_of ns) (map text_quad q)) d.names ∙ map-map (parts_of (map blank_text bs)) text_quad q in
-            let links : AllZip (IsOccurrence bs) (map occurrence_of (flat_map (given k) ps)) (related_in q b) = subst (λ ps. AllZip (IsOccurrence bs) (map occurrence_of (flat_map (given k) ps)) (related_in q b)) (sym numbered) (dataset_links bs differ k b at_k q within) in
-            let row : IsRowOf q bs b (more (bare q firsts cs b) (flat_map (given k) ps)) = record { name = refl; first = refl; related = links } in
-            (more found.0 (flat_map (given k) ps), last, subst (λ r. IsRowOf q bs b (more r (flat_map (given k) ps))) (sym found.2) row));
+            let last : slice_get (relate_all rows ps) k ≡ Some (with_related found.0 (flat_map (given k) ps)) = gets-all rows ps k ∙ ap (option_map (λ (r : NodeRow). with_related r (flat_map (given k) ps))) found.1 in
+            let numbered : ps ≡ map (λ t. parts_by_number (map blank_text bs) (text_quad t)) q = ap (λ ns. map (parts_by_number ns) (map text_quad q)) d.names ∙ map-map (parts_by_number (map blank_text bs)) text_quad q in
+            let related_nodes : AllZip (IsOccurrence bs) (map occurrence_of (flat_map (given k) ps)) (related_in q b) = subst (λ ps. AllZip (IsOccurrence bs) (map occurrence_of (flat_map (given k) ps)) (related_in q b)) (sym numbered) (dataset_links bs differ k b at_k q within) in
+            let row : IsRowOf q bs b (with_related (bare q firsts cs b) (flat_map (given k) ps)) = record { name = refl; first = refl; related = related_nodes } in
+            (with_related found.0 (flat_map (given k) ps), last, subst (λ r. IsRowOf q bs b (with_related r (flat_map (given k) ps))) (sym found.2) row));
       };
       others = All-from_recursion (Contains bs) cs (Each-from_contains (Contains bs) cs (λ u m. named_there bs u (subst (λ ns. Contains ns (blank_text u)) d.names (there u m))));
       each = All-from_recursion (λ b. StandsIn q b ⊎ Contains cs b) bs d.each;
@@ -446,7 +446,7 @@ built_table q firsts cs rows s there =
 
 pub built-with : (q : List Statement) (cs : List Blank) (quads : List TextQuad) (firsts : List BlankHash) (others : List (List ℕ)) → quads ≡ map text_quad q → AreFirstHashes sha256_digits q firsts → others ≡ map blank_text cs → IsTableWith q firsts cs (built quads firsts others)
 built-with q cs quads firsts others is are other =
-    let rows = with_rows (with_rows [] firsts) (map unknown (map blank_text cs)) in
+    let rows = with_rows (with_rows [] firsts) (map unused_name (map blank_text cs)) in
     let state = all_more q firsts cs (with_rows [] firsts) cs (firsts_state q firsts cs are) (λ u m. m) in
     let named : All (Contains (names_of rows)) (map blank_text cs) = All-from_recursion (Contains (names_of rows)) (map blank_text cs) (others-named (with_rows [] firsts) (map blank_text cs)) in
     let there : (u : Blank) → Contains cs u → Contains (names_of rows) (blank_text u) = λ u m. All-contains (Contains (names_of rows)) (map blank_text cs) (blank_text u) named (Contains-map blank_text cs u m) in
@@ -456,6 +456,6 @@ built-with q cs quads firsts others is are other =
 -- each further name is a name of the table
 pub built-named : (quads : List TextQuad) (firsts : List BlankHash) (others : List (List ℕ)) → All (Contains (names_of (built quads firsts others))) others
 built-named quads firsts others =
-    let rows = with_rows (with_rows [] firsts) (map unknown others) in
+    let rows = with_rows (with_rows [] firsts) (map unused_name others) in
     let named = All-from_recursion (Contains (names_of rows)) others (others-named (with_rows [] firsts) others) in
-    subst (λ ns. All (Contains ns) others) (sym (names-all rows (map (parts_of (names_of rows)) quads))) named
+    subst (λ ns. All (Contains ns) others) (sym (names-all rows (map (parts_by_number (names_of rows)) quads))) named

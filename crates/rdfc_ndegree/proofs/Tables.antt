@@ -8,7 +8,7 @@ use Rattle.digest_mac.specs.Digests.{sha256_digits}
 use Rattle.std.proofs.lemmas.Bool.Decides.{Decides-eqb, nat_tests}
 use Rattle.rdfc_ndegree.specs.Issuers.{has, number, canonical_id, temporary_id}
 use Rattle.rdfc_ndegree.specs.Table.{numbers_below, first_in, related_in_row, table_nodes}
-use Rattle.rdfc_ndegree.specs.Kept.{number_in, place_in}
+use Rattle.rdfc_ndegree.specs.NumberIssuers.{number_in, place_in}
 use Rattle.rdfc_ndegree.specs.declared.table.NodeRow.{NodeRow}
 use Rattle.rdfc_ndegree.proofs.AgreeBasics.{list_any-none, false_unless}
 

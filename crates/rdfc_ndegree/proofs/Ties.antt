@@ -14,10 +14,12 @@ use Rattle.base_types.specs.Order.{is_upto}
 use Rattle.base_types.specs.Sets.{AllDiffer}
 use Rattle.base_types.proofs.Lists.{Contains-here, Contains-there, Contains-nil, Contains-cons_cases, AllDiffer-strictly_sorted}
 use Rattle.base_types.proofs.Orders.{is_upto-refl}
-use Rattle.rdfc_ndegree.specs.Nodes.{as_subject, as_object, Occurrence, Nodes, AreNodes}
+use Rattle.rdfc_ndegree.specs.Nodes.{Occurrence, Nodes}
+use Rattle.rdfc_ndegree.specs.Internal.Nodes.{AreNodes}
+use Rattle.rdfc_ndegree.specs.declared.table.Position.TheVariants as position
 use Rattle.rdfc_ndegree.specs.Groups.{Group, related_groups}
-use Rattle.rdfc_ndegree.specs.NDegree.{Outcome, Trail, Calls, named_all, first_path, newly_named, entry, trail_end, trail_more, Nested, Evaluates, AreArrangements, chosen, IsChoice, outcome_end, outcome_more, InGroups, one_deeper, IsNDegreeWithin, IsNDegree}
-use Rattle.rdfc_ndegree.specs.Run.{first_groups, alone, lacking, take_issuers, InHashOrder, run_end, run_more, Result, Rounds, IsRun, MeetsTie, HasLabels}
+use Rattle.rdfc_ndegree.specs.NDegree.{Outcome, Trail, Calls, issuer_copy, first_path, recursion_list, path_part, trail_end, trail_more, Nested, Evaluates, AreArrangements, choice_of, IsChoice, outcome_end, outcome_more, InGroups, one_deeper, IsNDegreeWithin, IsNDegree}
+use Rattle.rdfc_ndegree.specs.Run.{first_groups, alone, lacking, take_issuers, InHashOrder, run_end, run_more, RunOutcome, Rounds, IsRun, MeetsTie, IsCanonicalIssuer}
 use Rattle.rdfc_ndegree.proofs.Agree.{IsNDegree-agrees}
 use Rattle.rdfc_ndegree.proofs.RunAgree.{labels-once, tie-exactly}
 
@@ -95,11 +97,11 @@ record Grouped {B : Type 0} (v : Nodes B) (calls : Calls B) (c : List B) (text :
   groups : InGroups v calls c text i gs outcome
 
 record Ran {B : Type 0} (v : Nodes B) (c : List B) (gs : List (Group B)) : Type 0 where
-  result : Result B
+  result : RunOutcome B
   rounds : Rounds v c gs result
 
 abbrev Evaluated : {B : Type 0} → Nodes B → Calls B → List B → List B → List B → Type 0
-Evaluated v calls c i p = Trailed v calls (named_all v c i p) (first_path v c i p) (newly_named v c i p)
+Evaluated v calls c i p = Trailed v calls (issuer_copy v c i p) (first_path v c i p) (recursion_list v c i p)
 
 -- a call with at most k nested calls open at once
 record CallOf {B : Type 0} (v : Nodes B) (c : List B) (k : ℕ) (n : B) (i : List B) : Type 0 where
@@ -117,13 +119,13 @@ abbrev stop : {B : Type 0} {v : Nodes B} {calls : Calls B} {i : List B} {path : 
 stop {i = i} {path = path} = record { trail = trail_end i path; nested = refl }
 
 -- a nested call for the next member
-abbrev enter : {B : Type 0} {v : Nodes B} {c : List B} {k : ℕ} {i : List B} {path : List ℕ} {m : B} {ms : List B} (g : CallOf v c k m i) → Trailed v (IsNDegreeWithin v c (suc k)) g.inner.issuer (path ++ entry v i m g.inner.hash) ms → Trailed v (IsNDegreeWithin v c (suc k)) i path (m ∷ ms)
+abbrev enter : {B : Type 0} {v : Nodes B} {c : List B} {k : ℕ} {i : List B} {path : List ℕ} {m : B} {ms : List B} (g : CallOf v c k m i) → Trailed v (IsNDegreeWithin v c (suc k)) g.inner.issuer (path ++ path_part v i m g.inner.hash) ms → Trailed v (IsNDegreeWithin v c (suc k)) i path (m ∷ ms)
 enter {path = path} g rest = record {
   trail = trail_more path (one_deeper g.inner) rest.trail;
   nested = record { outcome = one_deeper g.inner; rest = rest.trail; called = record { inner = g.inner; groups = g.groups; is = refl }; goes_on = rest.nested; is = refl };
 }
 
-one_choice : {B : Type 0} (v : Nodes B) (calls : Calls B) (c i : List B) (m : B) (t : Evaluated v calls c i (m ∷ [])) → IsChoice (Evaluates v calls c i) (m ∷ []) (chosen t.trail (t.trail ∷ []))
+one_choice : {B : Type 0} (v : Nodes B) (calls : Calls B) (c i : List B) (m : B) (t : Evaluated v calls c i (m ∷ [])) → IsChoice (Evaluates v calls c i) (m ∷ []) (choice_of t.trail (t.trail ∷ []))
 one_choice {B} v calls c i m t = record {
   arrangements = (m ∷ []) ∷ [];
   trails = t.trail ∷ [];
@@ -136,7 +138,7 @@ one_choice {B} v calls c i m t = record {
 }
 
 two_choice : {B : Type 0} (v : Nodes B) (calls : Calls B) (c i : List B) (m n : B) → (m ≡ n → ⊥) → (t : Evaluated v calls c i (m ∷ n ∷ [])) (u : Evaluated v calls c i (n ∷ m ∷ [])) → is_upto t.trail.path u.trail.path ≡ true
-    → IsChoice (Evaluates v calls c i) (m ∷ n ∷ []) (chosen t.trail (t.trail ∷ u.trail ∷ []))
+    → IsChoice (Evaluates v calls c i) (m ∷ n ∷ []) (choice_of t.trail (t.trail ∷ u.trail ∷ []))
 two_choice {B} v calls c i m n apart t u below = record {
   arrangements = both_ways m n;
   trails = t.trail ∷ u.trail ∷ [];
@@ -156,16 +158,16 @@ finish {v = v} {text = text} {i = i} = record { outcome = outcome_end v text i; 
 -- a group of one member, evaluated
 abbrev one : {B : Type 0} {v : Nodes B} {calls : Calls B} {c : List B} {text : List ℕ} {i : List B} {hash : List ℕ} {gs : List (Group B)} (m : B) (t : Evaluated v calls c i (m ∷ [])) → Grouped v calls c (text ++ (hash ++ t.trail.path)) t.trail.issuer gs → Grouped v calls c text i (group hash (m ∷ []) ∷ gs)
 one {v = v} {calls = calls} {c = c} {i = i} m t rest = record {
-  outcome = outcome_more (chosen t.trail (t.trail ∷ [])) rest.outcome;
-  groups = record { choice = chosen t.trail (t.trail ∷ []); rest = rest.outcome; is_choice = one_choice v calls c i m t; goes_on = rest.groups; is = refl };
+  outcome = outcome_more (choice_of t.trail (t.trail ∷ [])) rest.outcome;
+  groups = record { choice = choice_of t.trail (t.trail ∷ []); rest = rest.outcome; is_choice = one_choice v calls c i m t; goes_on = rest.groups; is = refl };
 }
 
 -- a group of two members, of which the first arrangement has the least path
 abbrev two : {B : Type 0} {v : Nodes B} {calls : Calls B} {c : List B} {text : List ℕ} {i : List B} {hash : List ℕ} {gs : List (Group B)} (m n : B) → (m ≡ n → ⊥) → (t : Evaluated v calls c i (m ∷ n ∷ [])) (u : Evaluated v calls c i (n ∷ m ∷ [])) → is_upto t.trail.path u.trail.path ≡ true
     → Grouped v calls c (text ++ (hash ++ t.trail.path)) t.trail.issuer gs → Grouped v calls c text i (group hash (m ∷ n ∷ []) ∷ gs)
 two {v = v} {calls = calls} {c = c} {i = i} m n apart t u below rest = record {
-  outcome = outcome_more (chosen t.trail (t.trail ∷ u.trail ∷ [])) rest.outcome;
-  groups = record { choice = chosen t.trail (t.trail ∷ u.trail ∷ []); rest = rest.outcome; is_choice = two_choice v calls c i m n apart t u below; goes_on = rest.groups; is = refl };
+  outcome = outcome_more (choice_of t.trail (t.trail ∷ u.trail ∷ [])) rest.outcome;
+  groups = record { choice = choice_of t.trail (t.trail ∷ u.trail ∷ []); rest = rest.outcome; is_choice = two_choice v calls c i m n apart t u below; goes_on = rest.groups; is = refl };
 }
 
 abbrev outcome_of : {B : Type 0} {v : Nodes B} {c : List B} {k : ℕ} {n : B} {i : List B} → CallOf v c k n i → Outcome B
@@ -214,8 +216,8 @@ both {v = v} {c = c} g h o p e moved up rest = record {
 abbrev pub neighbours : List (ℕ × ℕ) → ℕ → List (Occurrence ℕ)
 neighbours [] n = []
 neighbours (e ∷ es) n =
-    if e.0 == n then record { position = as_object; predicate = []; blank = e.1 } ∷ neighbours es n
-    else (if e.1 == n then record { position = as_subject; predicate = []; blank = e.0 } ∷ neighbours es n else neighbours es n)
+    if e.0 == n then record { position = position.Object; predicate = []; blank = e.1 } ∷ neighbours es n
+    else (if e.1 == n then record { position = position.Subject; predicate = []; blank = e.0 } ∷ neighbours es n else neighbours es n)
 
 -- the colour of a node is its first-degree hash, and a text its own digest
 abbrev pub graph : List ℕ → (ℕ → ℕ) → List (ℕ × ℕ) → Nodes ℕ
@@ -226,10 +228,10 @@ neighbours_all P [] n h = All-nil (λ (o : Occurrence ℕ). P o.blank)
 neighbours_all P (e ∷ es) n h = go (e.0 == n) (e.1 == n) (neighbours_all P es n h.1)
   where
     ahead : Occurrence ℕ
-    ahead = record { position = as_object; predicate = []; blank = e.1 }
+    ahead = record { position = position.Object; predicate = []; blank = e.1 }
 
     behind : Occurrence ℕ
-    behind = record { position = as_subject; predicate = []; blank = e.0 }
+    behind = record { position = position.Subject; predicate = []; blank = e.0 }
 
     go : (a b : Bool) → All (λ (o : Occurrence ℕ). P o.blank) (neighbours es n) → All (λ (o : Occurrence ℕ). P o.blank) (if a then ahead ∷ neighbours es n else (if b then behind ∷ neighbours es n else neighbours es n))
     go true b rest = All-cons (λ (o : Occurrence ℕ). P o.blank) ahead (neighbours es n) h.0.1 rest
@@ -348,7 +350,7 @@ rays_hub-no_tie d =
     let same = IsNDegree-agrees (is_call rays_hub) d in
     (sym same.0, sym (same.1 refl).1)
 
-pub rays-labels : HasLabels rays (3 ∷ 4 ∷ 5 ∷ 0 ∷ 1 ∷ 2 ∷ [])
+pub rays-labels : IsCanonicalIssuer rays (3 ∷ 4 ∷ 5 ∷ 0 ∷ 1 ∷ 2 ∷ [])
 unfolding digits
 rays-labels = record { run = rays_run.result; is_run = record { rounds = rays_run.rounds }; no_tie = refl; is = refl }
 
@@ -358,11 +360,11 @@ unfolding digits
 rays-measured = (refl, refl)
 
 -- each run meets the tie, or gives the labels
-pub twins-each : {r : Result ℕ} → IsRun twins r → r.tie ≡ true
+pub twins-each : {r : RunOutcome ℕ} → IsRun twins r → r.tie ≡ true
 twins-each d = (tie-exactly d).1 twins-tie
 
-pub star-each : {r : Result ℕ} → IsRun star r → r.tie ≡ true
+pub star-each : {r : RunOutcome ℕ} → IsRun star r → r.tie ≡ true
 star-each d = (tie-exactly d).1 star-ties
 
-pub rays-each : {r : Result ℕ} → IsRun rays r → (r.tie ≡ false) × (r.issuer ≡ 3 ∷ 4 ∷ 5 ∷ 0 ∷ 1 ∷ 2 ∷ [])
+pub rays-each : {r : RunOutcome ℕ} → IsRun rays r → (r.tie ≡ false) × (r.issuer ≡ 3 ∷ 4 ∷ 5 ∷ 0 ∷ 1 ∷ 2 ∷ [])
 rays-each d = labels-once rays-labels d

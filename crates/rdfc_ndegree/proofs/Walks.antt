@@ -3,14 +3,21 @@ use Rattle.std.proofs.Common.{◌≡◌, ℕ, ◌+◌, ◌<◌, List, [], ◌∷
 use Rattle.std.proofs.lemmas.List.{drop_more}
 use Rattle.std.specs.Prelude.{slice_get, codes, unwrap_or}
 use Rattle.std.specs.List.{list_any}
-use Rattle.rdfc_ndegree.specs.Groups.{known_as}
+use Rattle.rdfc_ndegree.specs.Groups.{identifier_or_hash}
 use Rattle.rdfc_ndegree.specs.Issuers.{has, temporary_id, canonical_id}
-use Rattle.rdfc_ndegree.specs.NDegree.{named, identifier, named_all, first_path, newly_named, entry}
+use Rattle.rdfc_ndegree.specs.NDegree.{issue_temporary, identifier, issuer_copy, first_path, recursion_list, path_part}
 use Rattle.rdfc_ndegree.specs.Table.{first_in, table_nodes}
-use Rattle.rdfc_ndegree.specs.Kept.{number_in, place_in, Walking}
+use Rattle.rdfc_ndegree.specs.NumberIssuers.{number_in, place_in}
 use Rattle.rdfc_ndegree.specs.declared.table.NodeRow.{NodeRow}
 use Rattle.rdfc_ndegree.proofs.Places.{place-push_same}
 use Rattle.rdfc_ndegree.proofs.Tables.{table-has, table-canonical_id, table-temporary_id, place-none, place-some, number-absent}
+
+-- The first pass over the members ms with the issuer i has come so far: what it gives is the path with what
+-- the members that remain add to it, and so on.
+pub record FirstPass (rows : List NodeRow) (c i ms : List ℕ) (path now new rest : List ℕ) : Type 0 where
+  pub path_is : first_path (table_nodes rows) c i ms ≡ path ++ first_path (table_nodes rows) c now rest
+  pub issuer_is : issuer_copy (table_nodes rows) c i ms ≡ issuer_copy (table_nodes rows) c now rest
+  pub named_is : recursion_list (table_nodes rows) c i ms ≡ new ++ recursion_list (table_nodes rows) c now rest
 
 -- how an identifier is spelled
 abbrev pub canonical_text : ℕ → List ℕ
@@ -34,13 +41,13 @@ module _ (rows : List NodeRow) (c i : List ℕ) (n : ℕ) where
 
   -- ---- what a related hash calls a node
 
-  pub known-canonical : (k : ℕ) → Some k ≡ place_in c n → known_as (table_nodes rows) c i n ≡ canonical_text k
+  pub known-canonical : (k : ℕ) → Some k ≡ place_in c n → identifier_or_hash (table_nodes rows) c i n ≡ canonical_text k
   known-canonical k at = let found = canonical-yes k at in rw (found.0) (ap (λ t. 95 ∷ 58 ∷ t) found.1)
 
-  pub known-temporary : (k : ℕ) → None ≡ place_in c n → Some k ≡ place_in i n → known_as (table_nodes rows) c i n ≡ temporary_text k
+  pub known-temporary : (k : ℕ) → None ≡ place_in c n → Some k ≡ place_in i n → identifier_or_hash (table_nodes rows) c i n ≡ temporary_text k
   known-temporary k none at = let no' = canonical-no none in let found = temporary-yes k at in rw (no', found.0) (ap (λ t. 95 ∷ 58 ∷ t) found.1)
 
-  pub known-first : (row : Option NodeRow) → None ≡ place_in c n → None ≡ place_in i n → row ≡ slice_get rows n → known_as (table_nodes rows) c i n ≡ first_in row
+  pub known-first : (row : Option NodeRow) → None ≡ place_in c n → None ≡ place_in i n → row ≡ slice_get rows n → identifier_or_hash (table_nodes rows) c i n ≡ first_in row
   unfolding table_nodes
   known-first row none nor is = let no' = canonical-no none in let not' = temporary-no nor in rw (no', not') (ap first_in (sym is))
 
@@ -52,60 +59,60 @@ module _ (rows : List NodeRow) (c i : List ℕ) (n : ℕ) where
   identifier-temporary : (k : ℕ) → None ≡ place_in c n → Some k ≡ place_in i n → identifier (table_nodes rows) c i n ≡ temporary_text k
   identifier-temporary k none at = let no' = canonical-no none in let found = temporary-yes k at in rw (no') (ap (λ t. 95 ∷ 58 ∷ t) found.1)
 
-  named-canonical : (k : ℕ) → Some k ≡ place_in c n → named (table_nodes rows) c i n ≡ i
+  named-canonical : (k : ℕ) → Some k ≡ place_in c n → issue_temporary (table_nodes rows) c i n ≡ i
   named-canonical k at = let found = canonical-yes k at in rw (found.0) refl
 
-  named-temporary : (k : ℕ) → None ≡ place_in c n → Some k ≡ place_in i n → named (table_nodes rows) c i n ≡ i
+  named-temporary : (k : ℕ) → None ≡ place_in c n → Some k ≡ place_in i n → issue_temporary (table_nodes rows) c i n ≡ i
   named-temporary k none at = let no' = canonical-no none in let found = temporary-yes k at in rw (no', found.0) refl
 
-  named-new : None ≡ place_in c n → None ≡ place_in i n → named (table_nodes rows) c i n ≡ i ++ n ∷ []
+  named-new : None ≡ place_in c n → None ≡ place_in i n → issue_temporary (table_nodes rows) c i n ≡ i ++ n ∷ []
   named-new none nor = let no' = canonical-no none in let not' = temporary-no nor in rw (no', not') refl
 
-  new-canonical : (k : ℕ) (ms : List ℕ) → Some k ≡ place_in c n → newly_named (table_nodes rows) c i (n ∷ ms) ≡ newly_named (table_nodes rows) c i ms
+  new-canonical : (k : ℕ) (ms : List ℕ) → Some k ≡ place_in c n → recursion_list (table_nodes rows) c i (n ∷ ms) ≡ recursion_list (table_nodes rows) c i ms
   new-canonical k ms at = let found = canonical-yes k at in rw (found.0) refl
 
-  new-temporary : (k : ℕ) (ms : List ℕ) → None ≡ place_in c n → Some k ≡ place_in i n → newly_named (table_nodes rows) c i (n ∷ ms) ≡ newly_named (table_nodes rows) c i ms
+  new-temporary : (k : ℕ) (ms : List ℕ) → None ≡ place_in c n → Some k ≡ place_in i n → recursion_list (table_nodes rows) c i (n ∷ ms) ≡ recursion_list (table_nodes rows) c i ms
   new-temporary k ms none at = let no' = canonical-no none in let found = temporary-yes k at in rw (no', found.0) refl
 
-  new-new : (ms : List ℕ) → None ≡ place_in c n → None ≡ place_in i n → newly_named (table_nodes rows) c i (n ∷ ms) ≡ n ∷ newly_named (table_nodes rows) c (named (table_nodes rows) c i n) ms
+  new-new : (ms : List ℕ) → None ≡ place_in c n → None ≡ place_in i n → recursion_list (table_nodes rows) c i (n ∷ ms) ≡ n ∷ recursion_list (table_nodes rows) c (issue_temporary (table_nodes rows) c i n) ms
   new-new ms none nor = let no' = canonical-no none in let not' = temporary-no nor in rw (no', not') refl
 
 -- ---- the pass over all members
 
 module _ (rows : List NodeRow) (c i ms : List ℕ) where
-  pub Walking-start : Walking rows c i ms [] i [] ms
+  pub Walking-start : FirstPass rows c i ms [] i [] ms
   Walking-start = record { path_is = refl; issuer_is = refl; named_is = refl }
 
-  pub Walking-end : (path now new : List ℕ) → Walking rows c i ms path now new [] → (first_path (table_nodes rows) c i ms ≡ path) × (named_all (table_nodes rows) c i ms ≡ now) × (newly_named (table_nodes rows) c i ms ≡ new)
+  pub Walking-end : (path now new : List ℕ) → FirstPass rows c i ms path now new [] → (first_path (table_nodes rows) c i ms ≡ path) × (issuer_copy (table_nodes rows) c i ms ≡ now) × (recursion_list (table_nodes rows) c i ms ≡ new)
   Walking-end path now new w = (w.path_is ∙ append-nil path, w.issuer_is, w.named_is ∙ append-nil new)
 
-  pub Walking-same : (path now new path' now' new' rest : List ℕ) → path' ≡ path → now' ≡ now → new' ≡ new → Walking rows c i ms path now new rest → Walking rows c i ms path' now' new' rest
+  pub Walking-same : (path now new path' now' new' rest : List ℕ) → path' ≡ path → now' ≡ now → new' ≡ new → FirstPass rows c i ms path now new rest → FirstPass rows c i ms path' now' new' rest
   Walking-same path now new path' now' new' rest a b d w = rw (a, b, d) w
 
-  module _ (path now new rest : List ℕ) (m : ℕ) (w : Walking rows c i ms path now new (m ∷ rest)) where
-    step : (text named' : List ℕ) (j : List ℕ) → identifier (table_nodes rows) c j m ≡ text → named (table_nodes rows) c now m ≡ j → newly_named (table_nodes rows) c now (m ∷ rest) ≡ named' ++ newly_named (table_nodes rows) c j rest → Walking rows c i ms (path ++ text) j (new ++ named') rest
+  module _ (path now new rest : List ℕ) (m : ℕ) (w : FirstPass rows c i ms path now new (m ∷ rest)) where
+    step : (text named' : List ℕ) (j : List ℕ) → identifier (table_nodes rows) c j m ≡ text → issue_temporary (table_nodes rows) c now m ≡ j → recursion_list (table_nodes rows) c now (m ∷ rest) ≡ named' ++ recursion_list (table_nodes rows) c j rest → FirstPass rows c i ms (path ++ text) j (new ++ named') rest
     step text named' j spells is news = record {
       path_is = w.path_is ∙ ap (λ k. path ++ (identifier (table_nodes rows) c k m ++ first_path (table_nodes rows) c k rest)) is ∙ ap (λ t. path ++ (t ++ first_path (table_nodes rows) c j rest)) spells ∙ sym (append_assoc path text _);
-      issuer_is = w.issuer_is ∙ ap (λ k. named_all (table_nodes rows) c k rest) is;
+      issuer_is = w.issuer_is ∙ ap (λ k. issuer_copy (table_nodes rows) c k rest) is;
       named_is = w.named_is ∙ ap (λ ns. new ++ ns) news ∙ sym (append_assoc new named' _);
     }
 
-    pub Walking-canonical : (k : ℕ) → Some k ≡ place_in c m → Walking rows c i ms (path ++ canonical_text k) now new rest
+    pub Walking-canonical : (k : ℕ) → Some k ≡ place_in c m → FirstPass rows c i ms (path ++ canonical_text k) now new rest
     Walking-canonical k at =
-        subst (λ ns. Walking rows c i ms (path ++ canonical_text k) now ns rest) (append-nil new)
+        subst (λ ns. FirstPass rows c i ms (path ++ canonical_text k) now ns rest) (append-nil new)
         (step (canonical_text k) [] now (identifier-canonical rows c now m k at) (named-canonical rows c now m k at) (new-canonical rows c now m k rest at))
 
-    pub Walking-temporary : (k : ℕ) → None ≡ place_in c m → Some k ≡ place_in now m → Walking rows c i ms (path ++ temporary_text k) now new rest
+    pub Walking-temporary : (k : ℕ) → None ≡ place_in c m → Some k ≡ place_in now m → FirstPass rows c i ms (path ++ temporary_text k) now new rest
     Walking-temporary k none at =
-        subst (λ ns. Walking rows c i ms (path ++ temporary_text k) now ns rest) (append-nil new)
+        subst (λ ns. FirstPass rows c i ms (path ++ temporary_text k) now ns rest) (append-nil new)
         (step (temporary_text k) [] now (identifier-temporary rows c now m k none at) (named-temporary rows c now m k none at) (new-temporary rows c now m k rest none at))
 
-    pub Walking-new : (k : ℕ) → None ≡ place_in c m → None ≡ place_in now m → k ≡ length now → Walking rows c i ms (path ++ temporary_text k) (now ++ m ∷ []) (new ++ m ∷ []) rest
+    pub Walking-new : (k : ℕ) → None ≡ place_in c m → None ≡ place_in now m → k ≡ length now → FirstPass rows c i ms (path ++ temporary_text k) (now ++ m ∷ []) (new ++ m ∷ []) rest
     Walking-new k none nor is =
         let j = named-new rows c now m none nor in
         let at : Some k ≡ place_in (now ++ m ∷ []) m = ap Some is ∙ sym (place-push_same now m (place-none now m (sym nor))) in
         step (temporary_text k) (m ∷ []) (now ++ m ∷ []) (identifier-temporary rows c (now ++ m ∷ []) m k none at) j
-        (new-new rows c now m rest none nor ∙ ap (λ k. m ∷ newly_named (table_nodes rows) c k rest) j)
+        (new-new rows c now m rest none nor ∙ ap (λ k. m ∷ recursion_list (table_nodes rows) c k rest) j)
 
 -- ---- what a nested call adds
 
@@ -116,17 +123,17 @@ number-or_length i n k is = go (list_any (λ m. m == n) i) refl
     go true e = let made : place_in i n ≡ Some (number_in i n) = rw e refl in is ∙ ap (λ p. unwrap_or p (length i)) made
     go false e = let made : place_in i n ≡ None = rw e refl in is ∙ ap (λ p. unwrap_or p (length i)) made ∙ sym (number-absent i n e)
 
-pub entry-pushed : (rows : List NodeRow) (i : List ℕ) (n k : ℕ) (hash path : List ℕ) → k ≡ number_in i n → (((path ++ temporary_text k) ++ 60 ∷ []) ++ hash) ++ 62 ∷ [] ≡ path ++ entry (table_nodes rows) i n hash
+pub entry-pushed : (rows : List NodeRow) (i : List ℕ) (n k : ℕ) (hash path : List ℕ) → k ≡ number_in i n → (((path ++ temporary_text k) ++ 60 ∷ []) ++ hash) ++ 62 ∷ [] ≡ path ++ path_part (table_nodes rows) i n hash
 entry-pushed rows i n k hash path is =
     let spells : temporary_text k ≡ 95 ∷ 58 ∷ temporary_id (table_nodes rows) i n = ap temporary_text is ∙ ap (λ t. 95 ∷ 58 ∷ t) (sym (table-temporary_id rows i n)) in
     simp append_assoc (ap (λ t. path ++ (t ++ (60 ∷ (hash ++ 62 ∷ [])))) spells)
 
 pub entry-made : (rows : List NodeRow) (i : List ℕ) (n k : ℕ) (hash seen path p q r s : List ℕ) → k ≡ unwrap_or (place_in i n) (length i) → seen ≡ hash
-    → p ≡ path ++ temporary_text k → q ≡ p ++ 60 ∷ [] → r ≡ q ++ seen → s ≡ r ++ 62 ∷ [] → s ≡ path ++ entry (table_nodes rows) i n hash
+    → p ≡ path ++ temporary_text k → q ≡ p ++ 60 ∷ [] → r ≡ q ++ seen → s ≡ r ++ 62 ∷ [] → s ≡ path ++ path_part (table_nodes rows) i n hash
 entry-made rows i n k hash seen path p q r s at same first second third fourth =
     fourth ∙ ap (λ t. t ++ 62 ∷ []) (third ∙ (λ j. (second ∙ ap (λ t. t ++ 60 ∷ []) first) j ++ same j)) ∙ entry-pushed rows i n k hash path (number-or_length i n k at)
 
-pub pass-start : (rows : List NodeRow) (c i ms : List ℕ) → Walking rows c i ms [] i [] (drop 0 ms)
+pub pass-start : (rows : List NodeRow) (c i ms : List ℕ) → FirstPass rows c i ms [] i [] (drop 0 ms)
 pass-start rows c i ms = Walking-start rows c i ms
 
 pub drop-next : (ms : List ℕ) (k m : ℕ) → k < length ms → m ≡ get_or ms k 0 → drop k ms ≡ m ∷ drop (k + 1) ms

@@ -3,8 +3,10 @@ use Rattle.std.specs.Prelude.{ℕ, List, ◌++◌, not, map, filter, flat_map}
 use Rattle.nquads.specs.Terms.{Blank, Statement}
 use Rattle.nquads.specs.Renaming.{same_blank, blanks_of_term, blanks_of_graph}
 use Rattle.nquads.specs.Spelling.{iri_text}
-use Rattle.nquads.specs.FirstDegree.{blanks, mention_set, first_degree_hash}
-use Rattle.rdfc_ndegree.specs.Nodes.{Position, as_subject, as_object, as_graph, Occurrence, Nodes}
+use Rattle.nquads.specs.FirstDegree.{blanks, about, first_degree_hash}
+use Rattle.rdfc_ndegree.specs.Nodes.{Occurrence, Nodes}
+use Rattle.rdfc_ndegree.specs.declared.table.Position.{Position}
+use Rattle.rdfc_ndegree.specs.declared.table.Position.TheVariants as position
 
 abbrev pub occurrence : {B : Type 0} → Position → List ℕ → B → Occurrence B
 occurrence position predicate blank = record { position = position; predicate = predicate; blank = blank }
@@ -16,9 +18,9 @@ occurrences_at n position predicate bs = map (occurrence position predicate) (fi
 -- the occurrences in one statement
 abbrev pub occurrences_in : Blank → Statement → List (Occurrence Blank)
 occurrences_in n s =
-    occurrences_at n as_subject (iri_text s.predicate) (blanks_of_term s.subject)
-    ++ (occurrences_at n as_object (iri_text s.predicate) (blanks_of_term s.object)
-    ++ occurrences_at n as_graph (iri_text s.predicate) (blanks_of_graph s.graph))
+    occurrences_at n position.Subject (iri_text s.predicate) (blanks_of_term s.subject)
+    ++ (occurrences_at n position.Object (iri_text s.predicate) (blanks_of_term s.object)
+    ++ occurrences_at n position.Graph (iri_text s.predicate) (blanks_of_graph s.graph))
 
 -- the related blank nodes of a node, once for each occurrence in its statements
 abbrev pub related_in : List Statement → Blank → List (Occurrence Blank)

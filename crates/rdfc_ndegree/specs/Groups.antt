@@ -1,26 +1,28 @@
 -- Related hashes, and nodes grouped by hash. RDF Canonicalization, 4.7, Hash Related Blank Node, and 4.8.3, steps 1 to 3.
 use Rattle.std.specs.Prelude.{ℕ, List, [], ◌∷◌, ◌++◌, map, filter, bytes_eq, if◌then◌else◌}
 use Rattle.base_types.specs.Order.{sorted_set}
-use Rattle.rdfc_ndegree.specs.Nodes.{Position, as_subject, as_object, as_graph, Occurrence, Nodes}
+use Rattle.rdfc_ndegree.specs.Nodes.{Occurrence, Nodes}
+use Rattle.rdfc_ndegree.specs.declared.table.Position.{Position}
+use Rattle.rdfc_ndegree.specs.declared.table.Position.TheVariants as position
 use Rattle.rdfc_ndegree.specs.Issuers.{has, canonical_id, temporary_id}
 
 -- `s`, `o` or `g`, and for the first two the predicate in angle brackets. -- RDF Canonicalization, 4.7.3, steps 1 and 2
-abbrev pub place_text : Position → List ℕ → List ℕ
-place_text as_subject predicate = 115 ∷ predicate
-place_text as_object predicate = 111 ∷ predicate
-place_text as_graph predicate = 103 ∷ []
+abbrev pub position_text : Position → List ℕ → List ℕ
+position_text position.Subject predicate = 115 ∷ predicate
+position_text position.Object predicate = 111 ∷ predicate
+position_text position.Graph predicate = 103 ∷ []
 
 -- what a related hash calls a node: `_:` and its canonical identifier, or else its identifier in the issuer,
 -- and else its first-degree hash. -- RDF Canonicalization, 4.7.3, steps 3 and 4
-abbrev pub known_as : {B : Type 0} → Nodes B → List B → List B → B → List ℕ
-known_as v c i n = if has v c n then 95 ∷ 58 ∷ canonical_id v c n else (if has v i n then 95 ∷ 58 ∷ temporary_id v i n else v.first n)
+abbrev pub identifier_or_hash : {B : Type 0} → Nodes B → List B → List B → B → List ℕ
+identifier_or_hash v c i n = if has v c n then 95 ∷ 58 ∷ canonical_id v c n else (if has v i n then 95 ∷ 58 ∷ temporary_id v i n else v.first n)
 
 -- the related hash of an occurrence, with the canonical issuer c and the issuer i. -- RDF Canonicalization, 4.7.3
 abbrev pub related_hash : {B : Type 0} → Nodes B → List B → List B → Occurrence B → List ℕ
-related_hash v c i o = v.digest (place_text o.position o.predicate ++ known_as v c i o.blank)
+related_hash v c i o = v.digest (position_text o.position o.predicate ++ identifier_or_hash v c i o.blank)
 
 -- a node with a hash of it
-pub record Hashed (B : Type 0) : Type 0 where
+pub record NodeHash (B : Type 0) : Type 0 where
   pub hash : List ℕ
   pub node : B
 
@@ -30,18 +32,18 @@ pub record Group (B : Type 0) : Type 0 where
   pub members : List B
 
 -- the group of a hash
-abbrev pub group_of : {B : Type 0} → List (Hashed B) → List ℕ → Group B
+abbrev pub group_of : {B : Type 0} → List (NodeHash B) → List ℕ → Group B
 group_of hs hash = record { hash = hash; members = map (λ h. h.node) (filter (λ h. bytes_eq h.hash hash) hs) }
 
 -- nodes grouped by hash, the groups in hash order
-abbrev pub grouped : {B : Type 0} → List (Hashed B) → List (Group B)
-grouped hs = map (group_of hs) (sorted_set (map (λ h. h.hash) hs))
+abbrev pub groups_by_hash : {B : Type 0} → List (NodeHash B) → List (Group B)
+groups_by_hash hs = map (group_of hs) (sorted_set (map (λ h. h.hash) hs))
 
 -- an occurrence's node with the related hash
-abbrev pub hashed_related : {B : Type 0} → Nodes B → List B → List B → Occurrence B → Hashed B
-hashed_related v c i o = record { hash = related_hash v c i o; node = o.blank }
+abbrev pub with_related_hash : {B : Type 0} → Nodes B → List B → List B → Occurrence B → NodeHash B
+with_related_hash v c i o = record { hash = related_hash v c i o; node = o.blank }
 
 -- The related nodes of n, once for each occurrence, grouped by the related hashes that are taken with the
 -- issuer with which n's call begins. RDF Canonicalization, 4.8.3, steps 1 to 3
 abbrev pub related_groups : {B : Type 0} → Nodes B → List B → List B → B → List (Group B)
-related_groups v c i n = grouped (map (hashed_related v c i) (v.related n))
+related_groups v c i n = groups_by_hash (map (with_related_hash v c i) (v.related n))

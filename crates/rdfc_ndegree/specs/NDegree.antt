@@ -41,8 +41,8 @@ Calls B = B → List B → Outcome B → Type 0
 -- ---- One arrangement. RDF Canonicalization, 4.8.3, step 5.4
 
 -- the issuer after a member: it names one that has neither a canonical nor a temporary identifier
-abbrev pub named : {B : Type 0} → Nodes B → List B → List B → B → List B
-named v c i m = if has v c m then i else issue v i m
+abbrev pub issue_temporary : {B : Type 0} → Nodes B → List B → List B → B → List B
+issue_temporary v c i m = if has v c m then i else issue v i m
 
 -- `_:` and the canonical identifier of a member, or else the temporary one
 abbrev pub identifier : {B : Type 0} → Nodes B → List B → List B → B → List ℕ
@@ -50,22 +50,22 @@ identifier v c i m = 95 ∷ 58 ∷ (if has v c m then canonical_id v c m else te
 
 -- the issuer after all members, the path that they give, and those of them that were named here, in order.
 -- -- RDF Canonicalization, 4.8.3, step 5.4.4
-abbrev pub named_all : {B : Type 0} → Nodes B → List B → List B → List B → List B
-named_all v c i [] = i
-named_all v c i (m ∷ ms) = named_all v c (named v c i m) ms
+abbrev pub issuer_copy : {B : Type 0} → Nodes B → List B → List B → List B → List B
+issuer_copy v c i [] = i
+issuer_copy v c i (m ∷ ms) = issuer_copy v c (issue_temporary v c i m) ms
 
 abbrev pub first_path : {B : Type 0} → Nodes B → List B → List B → List B → List ℕ
 first_path v c i [] = []
-first_path v c i (m ∷ ms) = identifier v c (named v c i m) m ++ first_path v c (named v c i m) ms
+first_path v c i (m ∷ ms) = identifier v c (issue_temporary v c i m) m ++ first_path v c (issue_temporary v c i m) ms
 
-abbrev pub newly_named : {B : Type 0} → Nodes B → List B → List B → List B → List B
-newly_named v c i [] = []
-newly_named v c i (m ∷ ms) = if has v c m || has v i m then newly_named v c i ms else m ∷ newly_named v c (named v c i m) ms
+abbrev pub recursion_list : {B : Type 0} → Nodes B → List B → List B → List B → List B
+recursion_list v c i [] = []
+recursion_list v c i (m ∷ ms) = if has v c m || has v i m then recursion_list v c i ms else m ∷ recursion_list v c (issue_temporary v c i m) ms
 
 -- what a nested call adds to the path: `_:` and the member's temporary identifier, and the hash in angle
 -- brackets. -- RDF Canonicalization, 4.8.3, steps 5.4.5.2 and 5.4.5.3
-abbrev pub entry : {B : Type 0} → Nodes B → List B → B → List ℕ → List ℕ
-entry v i m hash = 95 ∷ 58 ∷ (temporary_id v i m ++ (60 ∷ (hash ++ 62 ∷ [])))
+abbrev pub path_part : {B : Type 0} → Nodes B → List B → B → List ℕ → List ℕ
+path_part v i m hash = 95 ∷ 58 ∷ (temporary_id v i m ++ (60 ∷ (hash ++ 62 ∷ [])))
 
 -- the trail where no member is left
 abbrev pub trail_end : {B : Type 0} → List B → List ℕ → Trail B
@@ -87,11 +87,11 @@ pub record Enters {B : Type 0} (path : List ℕ) (call : Outcome B → Type 0) (
 -- gave. -- RDF Canonicalization, 4.8.3, step 5.4.5
 abbrev pub Nested : {B : Type 0} → Nodes B → Calls B → List B → List ℕ → List B → Trail B → Type 0
 Nested v calls i path [] t = t ≡ trail_end i path
-Nested v calls i path (m ∷ ms) t = Enters path (calls m i) (λ o u. Nested v calls o.issuer (path ++ entry v i m o.hash) ms u) t
+Nested v calls i path (m ∷ ms) t = Enters path (calls m i) (λ o u. Nested v calls o.issuer (path ++ path_part v i m o.hash) ms u) t
 
 -- The arrangement p, begun with the issuer i, may give t.
 abbrev pub Evaluates : {B : Type 0} → Nodes B → Calls B → List B → List B → List B → Trail B → Type 0
-Evaluates v calls c i p t = Nested v calls (named_all v c i p) (first_path v c i p) (newly_named v c i p) t
+Evaluates v calls c i p t = Nested v calls (issuer_copy v c i p) (first_path v c i p) (recursion_list v c i p) t
 
 -- ---- One group. RDF Canonicalization, 4.8.3, step 5
 
@@ -118,8 +118,8 @@ abbrev pub greatest_depth : {B : Type 0} → List (Trail B) → ℕ
 greatest_depth [] = 0
 greatest_depth (t ∷ ts) = max t.depth (greatest_depth ts)
 
-abbrev pub chosen : {B : Type 0} → Trail B → List (Trail B) → Choice B
-chosen best ts = record { path = best.path; issuer = best.issuer; tie = meets_tie best.path ts; work = total_work ts; depth = greatest_depth ts }
+abbrev pub choice_of : {B : Type 0} → Trail B → List (Trail B) → Choice B
+choice_of best ts = record { path = best.path; issuer = best.issuer; tie = meets_tie best.path ts; work = total_work ts; depth = greatest_depth ts }
 
 -- Every arrangement of the members is evaluated, and one with the least path is chosen.
 -- RDF Canonicalization, 4.8.3, steps 5.4 and 5.4.6
@@ -131,7 +131,7 @@ pub record IsChoice {B : Type 0} (evaluates : List B → Trail B → Type 0) (me
   pub evaluated : AllZip evaluates arrangements trails
   pub among : Contains trails best
   pub least : All (λ (t : Trail B). is_upto best.path t.path ≡ true) trails
-  pub is : choice ≡ chosen best trails
+  pub is : choice ≡ choice_of best trails
 
 -- ---- One call. RDF Canonicalization, 4.8.3
 

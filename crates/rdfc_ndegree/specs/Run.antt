@@ -4,16 +4,16 @@ use Rattle.std.specs.List.{AllZip, list_any}
 use Rattle.base_types.specs.Order.{is_upto}
 use Rattle.rdfc_ndegree.specs.Nodes.{Nodes}
 use Rattle.rdfc_ndegree.specs.Issuers.{has, issue}
-use Rattle.rdfc_ndegree.specs.Groups.{Hashed, Group, grouped}
+use Rattle.rdfc_ndegree.specs.Groups.{NodeHash, Group, groups_by_hash}
 use Rattle.rdfc_ndegree.specs.NDegree.{Outcome, IsNDegree}
 
 -- a node with its first-degree hash
-abbrev pub hashed_first : {B : Type 0} → Nodes B → B → Hashed B
-hashed_first v n = record { hash = v.first n; node = n }
+abbrev pub with_first_hash : {B : Type 0} → Nodes B → B → NodeHash B
+with_first_hash v n = record { hash = v.first n; node = n }
 
 -- the nodes grouped by first-degree hash, the groups in hash order. -- RDF Canonicalization, 4.4.3, steps 3 and 4
 abbrev pub first_groups : {B : Type 0} → Nodes B → List (Group B)
-first_groups v = grouped (map (hashed_first v) v.all)
+first_groups v = groups_by_hash (map (with_first_hash v) v.all)
 
 -- the one member of a group of one
 abbrev pub if_alone : {B : Type 0} → List B → List B
@@ -61,64 +61,64 @@ depth_of (o ∷ os) = max o.depth (depth_of os)
 
 -- What a run gives: the canonical issuer, in which a node's number is its place; whether a tie was met; the
 -- arrangements evaluated; and the most n-degree calls that were open at once.
-pub record Result (B : Type 0) : Type 0 where
+pub record RunOutcome (B : Type 0) : Type 0 where
   pub issuer : List B
   pub tie : Bool
   pub work : ℕ
   pub depth : ℕ
 
-abbrev pub run_end : {B : Type 0} → List B → Result B
+abbrev pub run_end : {B : Type 0} → List B → RunOutcome B
 run_end c = record { issuer = c; tie = false; work = 0; depth = 0 }
 
-abbrev pub run_more : {B : Type 0} → List (Outcome B) → Result B → Result B
+abbrev pub run_more : {B : Type 0} → List (Outcome B) → RunOutcome B → RunOutcome B
 run_more os r = record { issuer = r.issuer; tie = results_tie os || r.tie; work = work_of os + r.work; depth = max (depth_of os) r.depth }
 
 -- One group of one first-degree hash: each member without canonical identifier is hashed with a new issuer
 -- that has named it alone, and the results are taken in hash order, equals in any.
 -- RDF Canonicalization, 4.4.3, step 5
-pub record Round {B : Type 0} (v : Nodes B) (c : List B) (members : List B) (follows : List B → Result B → Type 0) (r : Result B) : Type 0 where
+pub record Round {B : Type 0} (v : Nodes B) (c : List B) (members : List B) (follows : List B → RunOutcome B → Type 0) (r : RunOutcome B) : Type 0 where
   pub outcomes : List (Outcome B)
   pub sorted : List (Outcome B)
-  pub rest : Result B
+  pub rest : RunOutcome B
   pub hashed : AllZip (λ n o. IsNDegree v c n (n ∷ []) o) (lacking v c members) outcomes
   pub order : IsPermutation outcomes sorted
   pub in_order : InHashOrder sorted
   pub goes_on : follows (take_issuers v c sorted) rest
   pub is : r ≡ run_more outcomes rest
 
-abbrev pub Rounds : {B : Type 0} → Nodes B → List B → List (Group B) → Result B → Type 0
+abbrev pub Rounds : {B : Type 0} → Nodes B → List B → List (Group B) → RunOutcome B → Type 0
 Rounds v c [] r = r ≡ run_end c
 Rounds v c (g ∷ gs) r = Round v c g.members (λ d rest. Rounds v d gs rest) r
 
 -- A run: the nodes with a hash of their own are named first, then the groups are taken in hash order. (A
 -- group of one has nobody left to name.) -- RDF Canonicalization, 4.4.3
-pub record IsRun {B : Type 0} (v : Nodes B) (r : Result B) : Type 0 where
+pub record IsRun {B : Type 0} (v : Nodes B) (r : RunOutcome B) : Type 0 where
   pub rounds : Rounds v (alone (first_groups v)) (first_groups v) r
 
 -- A run meets a tie.
 pub record MeetsTie {B : Type 0} (v : Nodes B) : Type 0 where
-  pub run : Result B
+  pub run : RunOutcome B
   pub is_run : IsRun v run
   pub tie : run.tie ≡ true
 
 -- some run evaluates more arrangements than n, or has more calls open at once
 pub record WorkOver {B : Type 0} (v : Nodes B) (n : ℕ) : Type 0 where
-  pub run : Result B
+  pub run : RunOutcome B
   pub is_run : IsRun v run
   pub over : n < run.work
 
 pub record DepthOver {B : Type 0} (v : Nodes B) (n : ℕ) : Type 0 where
-  pub run : Result B
+  pub run : RunOutcome B
   pub is_run : IsRun v run
   pub over : n < run.depth
 
 -- no run is over a limit
 abbrev pub WithinLimits : {B : Type 0} → Nodes B → ℕ → ℕ → Type 0
-WithinLimits v work depth = (r : Result _) → IsRun v r → (r.work ≤ work) × (r.depth ≤ depth)
+WithinLimits v work depth = (r : RunOutcome _) → IsRun v r → (r.work ≤ work) × (r.depth ≤ depth)
 
 -- The canonical issuer that every run without a tie gives; where one run meets no tie, none does.
-pub record HasLabels {B : Type 0} (v : Nodes B) (c : List B) : Type 0 where
-  pub run : Result B
+pub record IsCanonicalIssuer {B : Type 0} (v : Nodes B) (c : List B) : Type 0 where
+  pub run : RunOutcome B
   pub is_run : IsRun v run
   pub no_tie : run.tie ≡ false
   pub is : run.issuer ≡ c

@@ -1,6 +1,6 @@
 ghost use Rattle.std.specs.Prelude.{◌≡◌, ◌∷◌, [], IfOk, IfSome, IsNone, OnErr, IsPermutation};
 ghost use Rattle.rdfc_ndegree.specs.NDegree.{AreArrangements};
-ghost use Rattle.rdfc_ndegree.specs.Sequences.{Advances, IsPivot, IsLastAbove};
+ghost use Rattle.rdfc_ndegree.specs.Internal.Sequences.{Advances, IsPivot, IsLastAbove};
 
 use base_types::{Memory, Sequence};
 use std::alloc::Global;
@@ -16,7 +16,7 @@ pub struct Arrangements {
 
 impl Model for Arrangements {
     ghost use Rattle.std.specs.Prelude.{List, ℕ};
-    ghost use Rattle.rdfc_ndegree.specs.Sequences.{left_from};
+    ghost use Rattle.rdfc_ndegree.specs.Internal.Sequences.{left_from};
 
     ghost Value = { List (List ℕ) };
 

@@ -8,9 +8,11 @@ ghost use Rattle.nquads.specs.FirstDegree.{AreFirstHashes};
 ghost use Rattle.rdfc_ndegree.specs.TableOf.{IsTableWith};
 ghost use Rattle.rdfc_ndegree.specs.declared.limits.CanonFault.{CanonFault};
 ghost use Rattle.rdfc_ndegree.specs.Datasets.{nodes_of};
-ghost use Rattle.rdfc_ndegree.specs.Answers.{AnswersCall, CallOver, CallDeep};
-ghost use Rattle.rdfc_ndegree.specs.Building.{names_of, number_among};
-ghost use Rattle.rdfc_ndegree.specs.Requests.{IsSpelledCall, issued, name_at};
+ghost use Rattle.rdfc_ndegree.specs.Answers.{AnswersCall, CallDeep, CallOver, answer, spending};
+ghost use Rattle.rdfc_ndegree.specs.Table.{names_of, number_among};
+ghost use Rattle.rdfc_ndegree.specs.Requests.{IsSpelledCall, call_texts};
+ghost use Rattle.rdfc_ndegree.specs.NumberIssuers.{issue_numbers};
+ghost use Rattle.rdfc_ndegree.specs.Internal.Building.{name_at};
 
 use crate::building::node_table;
 use crate::canonical::Canonical;
@@ -44,18 +46,18 @@ pub fn n_degree(
     ensures limits { meter.new.limits ≡ meter.old.limits }
     ensures kept { meter.old.spent ≤ meter.old.limits.work → IfOk result (λ _. meter.new.spent ≤ meter.old.limits.work) }
     ensures ok { (q : List Statement) (n : Blank) (c i : List Blank)
-        → IsSpelledCall q n c i quads.now firsts.now canonical.now.order node.now issuer.order
-        → IfOk result (λ p. (j : List Blank) × (p.issuer.order ≡ map blank_text j) × AnswersCall (nodes_of sha256_digits q) c n i p.hash j p.tie meter.old.spent meter.new.spent depth meter.old.limits.depth) }
+        → IsSpelledCall q n c i (call_texts quads.now firsts.now canonical.now.order node.now issuer.order)
+        → IfOk result (λ p. (j : List Blank) × (p.issuer.order ≡ map blank_text j) × AnswersCall (nodes_of sha256_digits q) c n i (answer p.hash j p.tie) (spending meter.old meter.new depth)) }
     ensures work { (q : List Statement) (n : Blank) (c i : List Blank)
-        → IsSpelledCall q n c i quads.now firsts.now canonical.now.order node.now issuer.order
+        → IsSpelledCall q n c i (call_texts quads.now firsts.now canonical.now.order node.now issuer.order)
         → (limit : ℕ) → result ≡ Err (CanonFault.TooMuchWork limit)
         → (limit ≡ meter.old.limits.work) × CallOver (nodes_of sha256_digits q) c n i meter.old.spent limit }
     ensures deep { (q : List Statement) (n : Blank) (c i : List Blank)
-        → IsSpelledCall q n c i quads.now firsts.now canonical.now.order node.now issuer.order
+        → IsSpelledCall q n c i (call_texts quads.now firsts.now canonical.now.order node.now issuer.order)
         → (limit : ℕ) → result ≡ Err (CanonFault.TooDeep limit)
         → (limit ≡ meter.old.limits.depth) × CallDeep (nodes_of sha256_digits q) c n i depth limit }
 {
-    let Numbered {
+    let CallByNumber {
         table,
         canonical: named,
         issuer: begun,
@@ -84,7 +86,7 @@ pub fn n_degree(
 
 /// The dataset's table, in which each text of the call has a number, and the issuers over these numbers.
 #[derive(Debug, Drop)]
-struct Numbered {
+struct CallByNumber {
     table: NodeTable,
     canonical: Canonical,
     issuer: Sequence<usize>,
@@ -97,19 +99,19 @@ fn number_all(
     canonical: &[Text],
     issuer: &[Text],
     node: &Text,
-) -> Result<Numbered, Memory>
+) -> Result<CallByNumber, Memory>
     ensures table { (q : List Statement) (cs : List Blank) → quads.now ≡ map text_quad q
         → AreFirstHashes sha256_digits q firsts.now → canonical.now ++ (issuer.now ++ node.now ∷ []) ≡ map blank_text cs
         → IfOk result (λ r. IsTableWith q firsts.now cs r.table) }
     ensures node { IfOk result (λ r. Contains (names_of r.table) node.now) }
-    ensures canonical { IfOk result (λ r. r.canonical ≡ issued [] (filter_map (number_among (names_of r.table)) canonical.now)) }
+    ensures canonical { IfOk result (λ r. r.canonical ≡ issue_numbers [] (filter_map (number_among (names_of r.table)) canonical.now)) }
     ensures issuer { IfOk result (λ r. r.issuer ≡ filter_map (number_among (names_of r.table)) issuer.now) }
 {
     let others = all_names(alloc, canonical, issuer, node)?;
     let table = node_table(alloc, quads, firsts, others.as_slice())?;
     let canonical = issuer_over(alloc, &table, canonical)?;
     let issuer = numbers_of(alloc, &table, issuer)?;
-    Ok(Numbered {
+    Ok(CallByNumber {
         table,
         canonical,
         issuer,
@@ -158,7 +160,7 @@ fn numbers_of(alloc: Global, table: &NodeTable, texts: &[Text]) -> Result<Sequen
 
 /// The issuer that has named the nodes of these texts, in their order.
 fn issuer_over(alloc: Global, table: &NodeTable, texts: &[Text]) -> Result<Canonical, Memory>
-    ensures { IfOk result (λ c. c ≡ issued [] (filter_map (number_among (names_of table.now)) texts.now)) }
+    ensures { IfOk result (λ c. c ≡ issue_numbers [] (filter_map (number_among (names_of table.now)) texts.now)) }
 {
     let numbers = numbers_of(alloc, table, texts)?;
     let mut issuer = Canonical::new(alloc, table.len())?;
@@ -167,7 +169,7 @@ fn issuer_over(alloc: Global, table: &NodeTable, texts: &[Text]) -> Result<Canon
 }
 
 fn issue_all(issuer: &mut Canonical, numbers: &[usize]) -> Result<(), Memory>
-    ensures { OnOk result (issuer.new ≡ issued issuer.old numbers.now) }
+    ensures { OnOk result (issuer.new ≡ issue_numbers issuer.old numbers.now) }
 {
     for number in numbers {
         issuer.issue(*number)?;

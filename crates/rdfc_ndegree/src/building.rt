@@ -3,11 +3,12 @@ ghost use Rattle.digest_mac.specs.Digests.{sha256_digits};
 ghost use Rattle.nquads.specs.Terms.{Blank, Statement};
 ghost use Rattle.nquads.specs.Spelling.{blank_text, text_quad};
 ghost use Rattle.nquads.specs.FirstDegree.{AreFirstHashes, blank_hash};
-ghost use Rattle.rdfc_ndegree.specs.Building.{link, links_at, names_of, node_related, graph_related, object_related, parts_of, relate, related_all, related_at, unknown, with_row, with_rows};
+ghost use Rattle.rdfc_ndegree.specs.Internal.Building.{related_node, related_nodes_at, relate_node, relate_graph, relate_object, parts_by_number, relate_parts, relate_all, relate_row, unused_name, with_row, with_rows};
+ghost use Rattle.rdfc_ndegree.specs.Table.{names_of};
 ghost use Rattle.rdfc_ndegree.specs.TableOf.{IsTableWith};
 
 use crate::names::Names;
-use crate::table::{NodeRow, NodeTable, Place, Related};
+use crate::table::{NodeRow, NodeTable, Position, Related};
 use base_types::{Memory, Sequence, Text};
 use digest_mac::sha256_hex;
 use nquads::{BlankHash, TextQuad, TextQuads};
@@ -72,7 +73,7 @@ fn add_others(
 ) -> Result<(), Memory>
     requires { names.old ≡ names_of rows.old.items }
     ensures names { OnOk result (names.new ≡ names_of rows.new.items) }
-    ensures rows { OnOk result (rows.new.items ≡ with_rows rows.old.items (map unknown others.now)) }
+    ensures rows { OnOk result (rows.new.items ≡ with_rows rows.old.items (map unused_name others.now)) }
 {
     let nothing = sha256_hex(b"");
     for other in others {
@@ -109,17 +110,17 @@ fn add_row(
 
 /// Gives each row its related nodes, in the order of the statements.
 fn relate_all(rows: &mut Vec<NodeRow>, names: &Names, quads: &[TextQuad]) -> Result<(), Memory>
-    ensures { OnOk result (rows.new.items ≡ related_all rows.old.items (map (parts_of names.now) quads.now)) }
+    ensures { OnOk result (rows.new.items ≡ relate_all rows.old.items (map (parts_by_number names.now) quads.now)) }
 {
     for quad in quads {
-        let parts = numbered(names, quad)?;
+        let parts = parts_by_number(names, quad)?;
         relate_parts(rows, &parts)?;
     }
     Ok(())
 }
 
-fn numbered(names: &Names, quad: &TextQuad) -> Result<Parts, Memory>
-    ensures { IfOk result (λ p. p ≡ parts_of names.now quad.now) }
+fn parts_by_number(names: &Names, quad: &TextQuad) -> Result<Parts, Memory>
+    ensures { IfOk result (λ p. p ≡ parts_by_number names.now quad.now) }
 {
     let predicate = quad.predicate.clone()?;
     let graph = match &quad.graph {
@@ -136,7 +137,7 @@ fn numbered(names: &Names, quad: &TextQuad) -> Result<Parts, Memory>
 
 /// Each node of the statement takes it once, however often it stands there.
 fn relate_parts(rows: &mut Vec<NodeRow>, parts: &Parts) -> Result<(), Memory>
-    ensures { OnOk result (rows.new.items ≡ relate rows.old.items parts.now) }
+    ensures { OnOk result (rows.new.items ≡ relate_parts rows.old.items parts.now) }
 {
     relate_node(rows, parts.subject, parts)?;
     relate_object(rows, parts)?;
@@ -145,7 +146,7 @@ fn relate_parts(rows: &mut Vec<NodeRow>, parts: &Parts) -> Result<(), Memory>
 }
 
 fn relate_object(rows: &mut Vec<NodeRow>, parts: &Parts) -> Result<(), Memory>
-    ensures { OnOk result (rows.new.items ≡ object_related rows.old.items parts.now) }
+    ensures { OnOk result (rows.new.items ≡ relate_object rows.old.items parts.now) }
 {
     if parts.subject == parts.object {
         return Ok(());
@@ -154,7 +155,7 @@ fn relate_object(rows: &mut Vec<NodeRow>, parts: &Parts) -> Result<(), Memory>
 }
 
 fn relate_graph(rows: &mut Vec<NodeRow>, parts: &Parts) -> Result<(), Memory>
-    ensures { OnOk result (rows.new.items ≡ graph_related rows.old.items parts.now) }
+    ensures { OnOk result (rows.new.items ≡ relate_graph rows.old.items parts.now) }
 {
     if parts.subject == parts.graph || parts.object == parts.graph {
         return Ok(());
@@ -164,26 +165,26 @@ fn relate_graph(rows: &mut Vec<NodeRow>, parts: &Parts) -> Result<(), Memory>
 
 /// The other nodes of the statement go to the row of a node of it.
 fn relate_node(rows: &mut Vec<NodeRow>, node: Option<usize>, parts: &Parts) -> Result<(), Memory>
-    ensures { OnOk result (rows.new.items ≡ node_related rows.old.items node parts.now) }
+    ensures { OnOk result (rows.new.items ≡ relate_node rows.old.items node parts.now) }
 {
     let Some(node) = node else {
         return Ok(());
     };
-    push_related(rows, node, Place::Subject, &parts.predicate, parts.subject)?;
-    push_related(rows, node, Place::Object, &parts.predicate, parts.object)?;
-    push_related(rows, node, Place::Graph, &parts.predicate, parts.graph)?;
+    push_related(rows, node, Position::Subject, &parts.predicate, parts.subject)?;
+    push_related(rows, node, Position::Object, &parts.predicate, parts.object)?;
+    push_related(rows, node, Position::Graph, &parts.predicate, parts.graph)?;
     Ok(())
 }
 
-/// A node at one place of the statement goes to the row of another.
+/// A node at one position of the statement goes to the row of another.
 fn push_related(
     rows: &mut Vec<NodeRow>,
     node: usize,
-    place: Place,
+    position: Position,
     predicate: &Text,
     other: Option<usize>,
 ) -> Result<(), Memory>
-    ensures { OnOk result (rows.new.items ≡ related_at rows.old.items node (links_at node place predicate.now other)) }
+    ensures { OnOk result (rows.new.items ≡ relate_row rows.old.items node (related_nodes_at node position predicate.now other)) }
 {
     let Some(other) = other else {
         return Ok(());
@@ -194,17 +195,17 @@ fn push_related(
     if node >= rows.len() {
         return Ok(());
     }
-    let related = link_to(place, predicate, other)?;
+    let related = related_to(position, predicate, other)?;
     rows[node].related.push(related)?;
     Ok(())
 }
 
-fn link_to(place: Place, predicate: &Text, node: usize) -> Result<Related, Memory>
-    ensures { IfOk result (λ r. r ≡ link place predicate.now node) }
+fn related_to(position: Position, predicate: &Text, node: usize) -> Result<Related, Memory>
+    ensures { IfOk result (λ r. r ≡ related_node position predicate.now node) }
 {
     let predicate = predicate.clone()?;
     Ok(Related {
-        place,
+        position,
         predicate,
         node,
     })

@@ -1,4 +1,4 @@
-use crate::{NodeRow, NodeTable, Place, node_table};
+use crate::{NodeRow, NodeTable, Position, node_table};
 use base_types::{Memory, Text};
 use nquads::{BlankHash, TextQuad, TextQuads};
 use std::alloc::Global;
@@ -52,12 +52,12 @@ fn table(alloc: Global) -> Result<NodeTable, Memory> {
     node_table(alloc, &quads, firsts.as_slice(), others.as_slice())
 }
 
-fn is_row(row: Option<&NodeRow>, blank: &str, first: &[u8], related: &[(Place, usize)]) -> bool {
+fn is_row(row: Option<&NodeRow>, blank: &str, first: &[u8], related: &[(Position, usize)]) -> bool {
     let Some(row) = row else {
         return false;
     };
     for (got, want) in row.related.as_slice().iter().zip(related) {
-        if got.place != want.0 || got.node != want.1 || got.predicate.as_str() != P {
+        if got.position != want.0 || got.node != want.1 || got.predicate.as_str() != P {
             return false;
         }
     }
@@ -77,7 +77,7 @@ fn rows_have_their_related_nodes(rt: HostRuntime) -> Result<(), Memory> {
             table.row(0),
             "_:nx",
             &[b'1'; 64],
-            &[(Place::Graph, 1), (Place::Object, 1)]
+            &[(Position::Graph, 1), (Position::Object, 1)]
         )
     );
     assert!(rt;
@@ -85,7 +85,7 @@ fn rows_have_their_related_nodes(rt: HostRuntime) -> Result<(), Memory> {
             table.row(1),
             "_:ny",
             &[b'2'; 64],
-            &[(Place::Subject, 0), (Place::Object, 0), (Place::Subject, 0)]
+            &[(Position::Subject, 0), (Position::Object, 0), (Position::Subject, 0)]
         )
     );
     assert!(rt; is_row(table.row(2), "_:nq", NOTHING.as_bytes(), &[]));

@@ -1,8 +1,6 @@
-ghost use Rattle.std.specs.Prelude.{◌≡◌, ◌==◌, [], ◌∷◌, ◌++◌, Some, None, length, if◌then◌else◌, OnOk, OnErr, IfOk};
-ghost use Rattle.std.specs.List.{list_any};
+ghost use Rattle.std.specs.Prelude.{◌≡◌, ◌<◌, ℕ, [], length, slice_get, OnOk, OnErr, IfOk};
 ghost use Rattle.base_types.specs.Sets.{AllDiffer};
-ghost use Rattle.rdfc_ndegree.specs.Kept.{number_in, kept_at};
-ghost use Rattle.std.specs.Prelude.{◌<◌, ℕ, slice_get};
+ghost use Rattle.rdfc_ndegree.specs.NumberIssuers.{issue_number, place_in, place_at};
 
 use base_types::Memory;
 use std::alloc::Global;
@@ -18,7 +16,7 @@ pub struct Canonical {
 
 impl Model for Canonical {
     ghost use Rattle.std.specs.Prelude.{List, ℕ};
-    ghost use Rattle.rdfc_ndegree.specs.Kept.{ArePlaces};
+    ghost use Rattle.rdfc_ndegree.specs.NumberIssuers.{ArePlaces};
 
     ghost Value = { List ℕ };
 
@@ -48,7 +46,7 @@ impl Canonical {
     ///
     /// `Memory`: there is no memory for the number. The issuer is as before.
     pub fn issue(&mut self, node: usize) -> Result<(), Memory>
-        ensures ok { OnOk result (self.new ≡ (if list_any (λ m. m == node) self.old then self.old else self.old ++ node ∷ [])) }
+        ensures ok { OnOk result (self.new ≡ issue_number self.old node) }
         ensures err { OnErr result (self.new ≡ self.old) }
     {
         if self.number(node).is_some() {
@@ -63,7 +61,7 @@ impl Canonical {
 
     /// The place of a number in the order, from 0, or `None` where it is not named.
     pub fn number(&self, node: usize) -> Option<usize>
-        ensures { result ≡ (if list_any (λ m. m == node) self.now then Some (number_in self.now node) else None) }
+        ensures { result ≡ place_in self.now node }
     {
         *self.places.get(node)?
     }
@@ -87,7 +85,7 @@ impl Canonical {
 /// Lengthens the places so that one is kept for `node`.
 #[tactic(auto, using(crate::proofs::Places::room))]
 fn make_room(places: &mut Vec<Option<usize>>, node: usize) -> Result<(), Memory>
-    ensures same { (n : ℕ) → kept_at (slice_get places.new.items n) ≡ kept_at (slice_get places.old.items n) }
+    ensures same { (n : ℕ) → place_at (slice_get places.new.items n) ≡ place_at (slice_get places.old.items n) }
     ensures room { OnOk result (node < length places.new.items) }
 {
     if node < places.len() {

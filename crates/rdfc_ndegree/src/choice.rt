@@ -3,7 +3,7 @@
 ghost use Rattle.std.specs.Prelude.{◌≡◌, ◌==◌, ◌||◌, ◌⊎◌, ℕ, List, [], ◌∷◌, ◌++◌, OnOk, IfOk, nat_lt};
 ghost use Rattle.std.specs.List.{list_any, starts_with};
 ghost use Rattle.rdfc_ndegree.specs.NDegree.{Trail};
-ghost use Rattle.rdfc_ndegree.specs.Evaluations.{IsBestOf, IsPlaceOf};
+ghost use Rattle.rdfc_ndegree.specs.Internal.Evaluations.{IsBestOf, IsPlaceOf};
 
 use base_types::{Memory, Sequence};
 use std::alloc::Global;

@@ -1,11 +1,10 @@
 //! Hash N-Degree Quads (RDF Dataset Canonicalization, 4.8), by recursion.
 ghost use Rattle.std.specs.Prelude.{◌≡◌, ◌<◌, ◌≤◌, ◌+◌, ℕ, [], ◌∷◌, ◌++◌, IfOk, IfErr, OnOk, OnErr, All, length, Err, if◌then◌else◌};
 ghost use Rattle.rdfc_ndegree.specs.declared.limits.CanonFault.{CanonFault};
-ghost use Rattle.rdfc_ndegree.specs.Nodes.{AreNodes};
+ghost use Rattle.rdfc_ndegree.specs.Internal.Nodes.{AreNodes};
 ghost use Rattle.rdfc_ndegree.specs.Table.{IsClosed, table_nodes};
-ghost use Rattle.rdfc_ndegree.specs.Lack.{lack};
-ghost use Rattle.rdfc_ndegree.specs.Answers.{AnswersCall, CallOver, CallDeep};
-ghost use Rattle.rdfc_ndegree.specs.Evaluations.{AnswersTrail, TrailOver, TrailDeep, AnswersChoice, ChoiceOver, ChoiceDeep, IsFaultOf};
+ghost use Rattle.rdfc_ndegree.specs.Answers.{AnswersCall, CallDeep, CallOver, answer, spending};
+ghost use Rattle.rdfc_ndegree.specs.Internal.Evaluations.{AnswersTrail, TrailOver, TrailDeep, AnswersChoice, ChoiceOver, ChoiceDeep, IsFaultOf, choice_answer, trail_answer};
 
 use crate::arrangements::Arrangements;
 use crate::canonical::Canonical;
@@ -14,7 +13,7 @@ use crate::limits::{CanonFault, Meter};
 use crate::path::NodePath;
 use crate::related::related_groups;
 use crate::table::NodeTable;
-use crate::walk::{Walk, push_entry, walk_over};
+use crate::walk::{Walk, push_path_part, walk_over};
 use base_types::{Memory, Sequence};
 use digest_mac::sha256_hex;
 use std::alloc::Global;
@@ -39,7 +38,7 @@ pub fn hash_n_degree(
     ensures limits { meter.new.limits ≡ meter.old.limits }
     ensures kept { meter.old.spent ≤ meter.old.limits.work → IfOk result (λ _. meter.new.spent ≤ meter.old.limits.work) }
     ensures inside { IfOk result (λ p. All (λ k. k < length table.now) p.issuer) }
-    ensures ok { IfOk result (λ p. AnswersCall (table_nodes table.now) canonical.now node issuer p.hash p.issuer p.tie meter.old.spent meter.new.spent depth meter.old.limits.depth) }
+    ensures ok { IfOk result (λ p. AnswersCall (table_nodes table.now) canonical.now node issuer (answer p.hash p.issuer p.tie) (spending meter.old meter.new depth)) }
     ensures work { (limit : ℕ) → result ≡ Err (CanonFault.TooMuchWork limit) → (limit ≡ meter.old.limits.work) × CallOver (table_nodes table.now) canonical.now node issuer meter.old.spent limit }
     ensures deep { (limit : ℕ) → result ≡ Err (CanonFault.TooDeep limit) → (limit ≡ meter.old.limits.depth) × CallDeep (table_nodes table.now) canonical.now node issuer depth limit }
 {
@@ -76,12 +75,12 @@ fn call(
     ensures limits { meter.new.limits ≡ meter.old.limits }
     ensures kept { meter.old.spent ≤ meter.old.limits.work → IfOk result (λ _. meter.new.spent ≤ meter.old.limits.work) }
     ensures inside { IfOk result (λ p. All (λ k. k < length table.now) p.issuer) }
-    ensures ok { IfOk result (λ p. AnswersCall (table_nodes table.now) canonical.now node issuer p.hash p.issuer p.tie meter.old.spent meter.new.spent depth meter.old.limits.depth) }
+    ensures ok { IfOk result (λ p. AnswersCall (table_nodes table.now) canonical.now node issuer (answer p.hash p.issuer p.tie) (spending meter.old meter.new depth)) }
     ensures fault { IfErr result (IsFaultOf meter.old.limits (CallOver (table_nodes table.now) canonical.now node issuer meter.old.spent) (CallDeep (table_nodes table.now) canonical.now node issuer depth)) }
 {
     let groups = related_groups(alloc, table, canonical, issuer.as_slice(), node)?;
     let mut text = Vec::new(alloc);
-    let mut chosen = issuer;
+    let mut current = issuer;
     let mut tie = false;
     for group in &groups {
         let members = group.members.as_slice();
@@ -89,7 +88,7 @@ fn call(
             alloc,
             table,
             canonical,
-            chosen.as_slice(),
+            current.as_slice(),
             members,
             depth,
             meter,
@@ -97,16 +96,16 @@ fn call(
         let Choice {
             path,
             issuer,
-            tie: tied,
+            tie: choice_tie,
         } = choice;
         push_choice(&mut text, &group.hash, path.as_slice())?;
-        chosen = issuer;
-        tie |= tied;
+        current = issuer;
+        tie |= choice_tie;
     }
     let hash = sha256_hex(text.as_slice());
     Ok(NodePath {
         hash,
-        issuer: chosen,
+        issuer: current,
         tie,
     })
 }
@@ -140,7 +139,7 @@ fn choose(
     ensures limits { meter.new.limits ≡ meter.old.limits }
     ensures kept { meter.old.spent ≤ meter.old.limits.work → IfOk result (λ _. meter.new.spent ≤ meter.old.limits.work) }
     ensures inside { IfOk result (λ x. All (λ k. k < length table.now) x.issuer) }
-    ensures ok { IfOk result (λ x. AnswersChoice (table_nodes table.now) canonical.now issuer.now members.now x.path x.issuer x.tie meter.old.spent meter.new.spent depth meter.old.limits.depth) }
+    ensures ok { IfOk result (λ x. AnswersChoice (table_nodes table.now) canonical.now issuer.now members.now (choice_answer x.path x.issuer x.tie) (spending meter.old meter.new depth)) }
     ensures fault { IfErr result (IsFaultOf meter.old.limits (ChoiceOver (table_nodes table.now) canonical.now issuer.now members.now meter.old.spent) (ChoiceDeep (table_nodes table.now) canonical.now issuer.now members.now depth)) }
 {
     let mut left = Arrangements::new(alloc, members)?;
@@ -154,7 +153,7 @@ fn choose(
     Ok(best.into_choice())
 }
 
-/// Counts one arrangement, before it is begun.
+/// Counts one arrangement, before it is begin_with.
 fn count_arrangement(meter: &mut Meter) -> Result<(), CanonFault>
     ensures limits { meter.new.limits ≡ meter.old.limits }
     ensures counted { OnOk result ((meter.new.spent ≡ meter.old.spent + 1) × (meter.old.spent < meter.old.limits.work)) }
@@ -186,30 +185,30 @@ fn evaluate(
     ensures limits { meter.new.limits ≡ meter.old.limits }
     ensures kept { meter.old.spent ≤ meter.old.limits.work → IfOk result (λ _. meter.new.spent ≤ meter.old.limits.work) }
     ensures inside { IfOk result (λ x. All (λ k. k < length table.now) x.issuer) }
-    ensures ok { IfOk result (λ x. AnswersTrail (table_nodes table.now) canonical.now issuer.now arrangement.now x.path x.issuer x.ties.items meter.old.spent meter.new.spent depth meter.old.limits.depth) }
+    ensures ok { IfOk result (λ x. AnswersTrail (table_nodes table.now) canonical.now issuer.now arrangement.now (trail_answer x.path x.issuer x.ties.items) (spending meter.old meter.new depth)) }
     ensures fault { IfErr result (IsFaultOf meter.old.limits (TrailOver (table_nodes table.now) canonical.now issuer.now arrangement.now meter.old.spent) (TrailDeep (table_nodes table.now) canonical.now issuer.now arrangement.now depth)) }
 {
     let Walk {
         path,
-        issuer: named_all,
-        named,
+        issuer: issuer_copy,
+        recursion_list,
     } = walk_over(alloc, canonical, issuer, arrangement)?;
     let mut path = path.into_vec();
-    let mut given = named_all;
+    let mut current = issuer_copy;
     let mut ties = Vec::new(alloc);
-    for member in named.as_slice() {
+    for member in recursion_list.as_slice() {
         if depth >= meter.limits.depth {
             return Err(CanonFault::TooDeep(meter.limits.depth));
         }
-        let begun = copy_of(&given)?;
-        let nested = call(alloc, table, canonical, *member, begun, depth + 1, meter)?;
+        let begin_with = copy_of(&current)?;
+        let nested = call(alloc, table, canonical, *member, begin_with, depth + 1, meter)?;
         note_tie(alloc, &mut ties, nested.tie, path.as_slice())?;
-        push_entry(alloc, &mut path, given.as_slice(), *member, &nested.hash)?;
-        given = nested.issuer;
+        push_path_part(alloc, &mut path, current.as_slice(), *member, &nested.hash)?;
+        current = nested.issuer;
     }
     Ok(Evaluation {
         path: Sequence::from_vec(path),
-        issuer: given,
+        issuer: current,
         ties,
     })
 }

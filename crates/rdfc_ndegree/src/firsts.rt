@@ -1,9 +1,10 @@
 ghost use Rattle.std.specs.Prelude.{◌≡◌, ◌<◌, map, length, All, IfOk};
-ghost use Rattle.rdfc_ndegree.specs.Run.{first_groups, hashed_first};
-ghost use Rattle.rdfc_ndegree.specs.Kept.{group_in, hashed_in};
+ghost use Rattle.rdfc_ndegree.specs.Run.{first_groups, with_first_hash};
+ghost use Rattle.rdfc_ndegree.specs.Table.{group_in};
+ghost use Rattle.rdfc_ndegree.specs.Internal.Grouping.{node_hash};
 ghost use Rattle.rdfc_ndegree.specs.Table.{table_nodes, IsClosed};
 
-use crate::related::{HashedNode, NodeGroup, grouped_by_hash};
+use crate::related::{HashedNode, NodeGroup, group_by_hash};
 use crate::table::NodeTable;
 use base_types::Memory;
 use std::alloc::Global;
@@ -21,13 +22,13 @@ pub fn first_groups(alloc: Global, table: &NodeTable) -> Result<Vec<NodeGroup>, 
 {
     let _row = table.row(0);
     let hashed = hashed_rows(alloc, table)?;
-    let groups = grouped_by_hash(alloc, hashed)?;
+    let groups = group_by_hash(alloc, hashed)?;
     Ok(groups)
 }
 
 /// Each node with its first-degree hash.
 fn hashed_rows(alloc: Global, table: &NodeTable) -> Result<Vec<HashedNode>, Memory>
-    ensures { IfOk result (λ hs. map hashed_in hs.items ≡ map (hashed_first (table_nodes table.now)) (table_nodes table.now).all) }
+    ensures { IfOk result (λ hs. map node_hash hs.items ≡ map (with_first_hash (table_nodes table.now)) (table_nodes table.now).all) }
 {
     let mut hashed = Vec::new(alloc);
     for node in 0..table.len() {

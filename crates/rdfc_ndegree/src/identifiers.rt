@@ -1,5 +1,5 @@
 ghost use Rattle.std.specs.Prelude.{◌≡◌, ◌∷◌, ◌++◌, [], codes, decimal, OnOk};
-ghost use Rattle.rdfc_ndegree.specs.Kept.{place_in};
+ghost use Rattle.rdfc_ndegree.specs.NumberIssuers.{place_in};
 
 use base_types::Memory;
 use std::alloc::Global;

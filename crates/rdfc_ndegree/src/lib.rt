@@ -29,7 +29,6 @@ mod table;
 mod tests;
 mod walk;
 
-pub use arrangements::Arrangements;
 pub use base_types::{Memory, Sequence, Text};
 pub use blank_nodes::n_degree;
 pub use building::node_table;
@@ -39,4 +38,4 @@ pub use firsts::first_groups;
 pub use limits::{CanonFault, Issuer, Limits, Meter, Path};
 pub use path::NodePath;
 pub use related::NodeGroup;
-pub use table::{NodeRow, NodeTable, Place, Related};
+pub use table::{NodeRow, NodeTable, Position, Related};

@@ -1,5 +1,5 @@
 ghost use Rattle.std.specs.Prelude.{◌≡◌, [], ◌∷◌, ◌++◌, None, OnOk};
-ghost use Rattle.rdfc_ndegree.specs.Building.{number_among};
+ghost use Rattle.rdfc_ndegree.specs.Table.{number_among};
 
 use base_types::{Memory, Text};
 use indexmap::IndexSet;

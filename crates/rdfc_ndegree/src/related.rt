@@ -1,11 +1,12 @@
 ghost use Rattle.std.specs.Prelude.{◌≡◌, ◌<◌, ◌++◌, map, length, All, IsTrue, OnOk, IfOk};
-ghost use Rattle.rdfc_ndegree.specs.Groups.{place_text, known_as, grouped, hashed_related, related_groups};
-ghost use Rattle.rdfc_ndegree.specs.Kept.{hashed_in, group_in, added, ends_with};
-ghost use Rattle.rdfc_ndegree.specs.Table.{occurrence_of, position_of, table_nodes};
+ghost use Rattle.rdfc_ndegree.specs.Groups.{position_text, identifier_or_hash, groups_by_hash, with_related_hash, related_groups};
+ghost use Rattle.rdfc_ndegree.specs.Internal.Grouping.{node_hash, add_to_groups, last_has_hash};
+ghost use Rattle.rdfc_ndegree.specs.Table.{group_in};
+ghost use Rattle.rdfc_ndegree.specs.Table.{occurrence_of, table_nodes};
 
 use crate::canonical::Canonical;
 use crate::identifiers::{place_of, push_canonical, push_temporary};
-use crate::table::{NodeTable, Place, Related};
+use crate::table::{NodeTable, Position, Related};
 use base_types::{Memory, Sequence};
 use digest_mac::sha256_hex;
 use std::alloc::Global;
@@ -44,7 +45,7 @@ pub fn related_groups(
         return Ok(Vec::new(alloc));
     };
     let hashed = related_hashes(alloc, table, canonical, issuer, row.related.as_slice())?;
-    let groups = grouped_by_hash(alloc, hashed)?;
+    let groups = group_by_hash(alloc, hashed)?;
     Ok(groups)
 }
 
@@ -56,13 +57,13 @@ fn related_hashes(
     issuer: &[usize],
     related: &[Related],
 ) -> Result<Vec<HashedNode>, Memory>
-    ensures { IfOk result (λ hs. map hashed_in hs.items ≡ map (hashed_related (table_nodes table.now) canonical.now issuer.now) (map occurrence_of related.now)) }
+    ensures { IfOk result (λ hs. map node_hash hs.items ≡ map (with_related_hash (table_nodes table.now) canonical.now issuer.now) (map occurrence_of related.now)) }
 {
     let mut hashed = Vec::new(alloc);
     for occurrence in related {
         let mut text = Vec::new(alloc);
-        push_place(&mut text, occurrence)?;
-        push_known_as(alloc, &mut text, table, canonical, issuer, occurrence.node)?;
+        push_position(&mut text, occurrence)?;
+        push_identifier_or_hash(alloc, &mut text, table, canonical, issuer, occurrence.node)?;
         hashed.push(HashedNode {
             hash: sha256_hex(text.as_slice()),
             node: occurrence.node,
@@ -72,13 +73,13 @@ fn related_hashes(
 }
 
 /// `s`, `o` or `g`, and for the first two the predicate. RDF Dataset Canonicalization, 4.7.3, steps 1 and 2.
-fn push_place(text: &mut Vec<u8>, occurrence: &Related) -> Result<(), Memory>
-    ensures { OnOk result (text.new.items ≡ text.old.items ++ place_text (position_of occurrence.now.place) occurrence.now.predicate) }
+fn push_position(text: &mut Vec<u8>, occurrence: &Related) -> Result<(), Memory>
+    ensures { OnOk result (text.new.items ≡ text.old.items ++ position_text occurrence.now.position occurrence.now.predicate) }
 {
-    match occurrence.place {
-        Place::Subject => text.push(b's')?,
-        Place::Object => text.push(b'o')?,
-        Place::Graph => {
+    match occurrence.position {
+        Position::Subject => text.push(b's')?,
+        Position::Object => text.push(b'o')?,
+        Position::Graph => {
             text.push(b'g')?;
             return Ok(());
         }
@@ -90,7 +91,7 @@ fn push_place(text: &mut Vec<u8>, occurrence: &Related) -> Result<(), Memory>
 /// What a related hash calls a node: its identifier if it has one, and else its first-degree hash.
 /// RDF Dataset Canonicalization, 4.7.3, steps 3 and 4.
 #[tactic(auto, using(crate::proofs::Walks::known))]
-fn push_known_as(
+fn push_identifier_or_hash(
     alloc: Global,
     text: &mut Vec<u8>,
     table: &NodeTable,
@@ -98,7 +99,7 @@ fn push_known_as(
     issuer: &[usize],
     node: usize,
 ) -> Result<(), Memory>
-    ensures { OnOk result (text.new.items ≡ text.old.items ++ known_as (table_nodes table.now) canonical.now issuer.now node) }
+    ensures { OnOk result (text.new.items ≡ text.old.items ++ identifier_or_hash (table_nodes table.now) canonical.now issuer.now node) }
 {
     if let Some(number) = canonical.number(node) {
         return push_canonical(alloc, text, number);
@@ -113,11 +114,11 @@ fn push_known_as(
 }
 
 /// The nodes grouped by hash, the groups in hash order, each in the order of the list.
-pub(crate) fn grouped_by_hash(
+pub(crate) fn group_by_hash(
     alloc: Global,
     mut hashed: Vec<HashedNode>,
 ) -> Result<Vec<NodeGroup>, Memory>
-    ensures { IfOk result (λ groups. map group_in groups.items ≡ grouped (map hashed_in hashed.items)) }
+    ensures { IfOk result (λ groups. map group_in groups.items ≡ groups_by_hash (map node_hash hashed.items)) }
 {
     hashed.sort_by_key(
         |node: &HashedNode|
@@ -134,9 +135,9 @@ pub(crate) fn grouped_by_hash(
 /// Adds a node to the last group if it has its hash, and else as a group of its own.
 #[tactic(auto, using(crate::proofs::Adding::adding))]
 fn add(alloc: Global, groups: &mut Vec<NodeGroup>, next: &HashedNode) -> Result<(), Memory>
-    ensures { OnOk result (map group_in groups.new.items ≡ added (map group_in groups.old.items) (hashed_in next.now)) }
+    ensures { OnOk result (map group_in groups.new.items ≡ add_to_groups (map group_in groups.old.items) (node_hash next.now)) }
 {
-    if ends_with(groups.as_slice(), &next.hash) {
+    if last_has_hash(groups.as_slice(), &next.hash) {
         let last = groups.len() - 1;
         return groups[last].members.push(next.node);
     }
@@ -151,8 +152,8 @@ fn add(alloc: Global, groups: &mut Vec<NodeGroup>, next: &HashedNode) -> Result<
 
 /// Whether there is a last group and it has this hash.
 #[tactic(auto, using(crate::proofs::Adding::ending))]
-fn ends_with(groups: &[NodeGroup], hash: &[u8; 64]) -> bool
-    ensures last { result ≡ ends_with (map group_in groups.now) hash.now }
+fn last_has_hash(groups: &[NodeGroup], hash: &[u8; 64]) -> bool
+    ensures last { result ≡ last_has_hash (map group_in groups.now) hash.now }
     ensures some { IsTrue result → 0 < length groups.now }
 {
     match groups.last() {

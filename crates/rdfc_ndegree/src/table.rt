@@ -1,7 +1,7 @@
 ghost use Rattle.std.specs.Prelude.{◌≡◌, ◌<◌, length, slice_get};
 ghost use Rattle.std.specs.Option.{option_copied};
 ghost use Rattle.rdfc_ndegree.specs.Table.{IsClosed};
-ghost use Rattle.rdfc_ndegree.specs.Building.{names_of, number_among};
+ghost use Rattle.rdfc_ndegree.specs.Table.{names_of, number_among};
 
 use crate::names::Names;
 use base_types::{Sequence, Text};
@@ -9,7 +9,7 @@ use std::marker::Model;
 
 /// Where a related node stands in a statement.
 #[derive(Clone, Copy, Debug, PartialEq, Eq)]
-pub enum Place {
+pub enum Position {
     Subject,
     Object,
     Graph,
@@ -19,7 +19,7 @@ pub enum Place {
 /// the number of the node.
 #[derive(Debug, Drop)]
 pub struct Related {
-    pub place: Place,
+    pub position: Position,
     pub predicate: Text,
     pub node: usize,
 }
@@ -45,7 +45,7 @@ impl Model for NodeTable {
     ghost use Rattle.rdfc_ndegree.specs.declared.table.NodeRow.{NodeRow};
     ghost use Rattle.rdfc_ndegree.specs.Table.{IsClosed};
     ghost use Rattle.std.specs.Prelude.{◌≡◌};
-    ghost use Rattle.rdfc_ndegree.specs.Building.{names_of};
+    ghost use Rattle.rdfc_ndegree.specs.Table.{names_of};
 
     ghost Value = { List NodeRow };
 

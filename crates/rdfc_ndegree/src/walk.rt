@@ -1,5 +1,5 @@
 ghost use Rattle.std.specs.Prelude.{◌≡◌, ◌∷◌, ◌++◌, [], List, OnOk, IfOk};
-ghost use Rattle.rdfc_ndegree.specs.NDegree.{named, identifier, named_all, first_path, newly_named, entry};
+ghost use Rattle.rdfc_ndegree.specs.NDegree.{issue_temporary, identifier, issuer_copy, first_path, recursion_list, path_part};
 ghost use Rattle.rdfc_ndegree.specs.Table.{table_nodes};
 ghost use Rattle.rdfc_ndegree.specs.declared.table.NodeRow.{NodeRow};
 
@@ -14,7 +14,7 @@ use std::alloc::Global;
 pub struct Walk {
     pub path: Sequence<u8>,
     pub issuer: Sequence<usize>,
-    pub named: Sequence<usize>,
+    pub recursion_list: Sequence<usize>,
 }
 
 /// Goes over the members of an arrangement: each one that has no identifier yet is named in a copy of the
@@ -29,26 +29,26 @@ pub fn walk_over(
     issuer: &[usize],
     members: &[usize],
 ) -> Result<Walk, Memory>
-    ensures { (rows : List NodeRow) → IfOk result (λ w. (w.path ≡ first_path (table_nodes rows) canonical.now issuer.now members.now) × (w.issuer ≡ named_all (table_nodes rows) canonical.now issuer.now members.now) × (w.named ≡ newly_named (table_nodes rows) canonical.now issuer.now members.now)) }
+    ensures { (rows : List NodeRow) → IfOk result (λ w. (w.path ≡ first_path (table_nodes rows) canonical.now issuer.now members.now) × (w.issuer ≡ issuer_copy (table_nodes rows) canonical.now issuer.now members.now) × (w.recursion_list ≡ recursion_list (table_nodes rows) canonical.now issuer.now members.now)) }
 {
     let mut path = Vec::new(alloc);
-    let mut issued = issuer.to_vec(alloc)?;
-    let mut named = Vec::new(alloc);
+    let mut issuer_copy = issuer.to_vec(alloc)?;
+    let mut recursion_list = Vec::new(alloc);
     for member in members {
         if let Some(number) = canonical.number(*member) {
             push_canonical(alloc, &mut path, number)?;
-        } else if let Some(number) = place_of(issued.as_slice(), *member) {
+        } else if let Some(number) = place_of(issuer_copy.as_slice(), *member) {
             push_temporary(alloc, &mut path, number)?;
         } else {
-            push_temporary(alloc, &mut path, issued.len())?;
-            issued.push(*member)?;
-            named.push(*member)?;
+            push_temporary(alloc, &mut path, issuer_copy.len())?;
+            issuer_copy.push(*member)?;
+            recursion_list.push(*member)?;
         }
     }
     Ok(Walk {
         path: Sequence::from_vec(path),
-        issuer: Sequence::from_vec(issued),
-        named: Sequence::from_vec(named),
+        issuer: Sequence::from_vec(issuer_copy),
+        recursion_list: Sequence::from_vec(recursion_list),
     })
 }
 
@@ -58,14 +58,14 @@ pub fn walk_over(
 /// # Errors
 ///
 /// `Memory`: there is no memory for the longer path.
-pub fn push_entry(
+pub fn push_path_part(
     alloc: Global,
     path: &mut Vec<u8>,
     issuer: &[usize],
     member: usize,
     hash: &[u8; 64],
 ) -> Result<(), Memory>
-    ensures { (rows : List NodeRow) → OnOk result (path.new.items ≡ path.old.items ++ entry (table_nodes rows) issuer.now member hash.now) }
+    ensures { (rows : List NodeRow) → OnOk result (path.new.items ≡ path.old.items ++ path_part (table_nodes rows) issuer.now member hash.now) }
 {
     let number = place_of(issuer, member).unwrap_or(issuer.len());
     push_temporary(alloc, path, number)?;

@@ -2,7 +2,7 @@ use Rattle.std.proofs.Common.{[], refl, sym, ◌∙◌, ap, subst}
 use Rattle.digest_mac.specs.Digests.{sha256_digits}
 use Rattle.nquads.specs.FirstDegree.{AreFirstHashes}
 use Rattle.rdfc_ndegree.specs.declared.limits.CanonFault.TheVariants as fault
-use Rattle.rdfc_canon.specs.Labelling.{all_labels}
+use Rattle.rdfc_canon.specs.Internal.Labelling.{all_labels}
 use Rattle.rdfc_canon.proofs.Clauses.{fault-there}
 use Rattle.rdfc_canon.proofs.Answering.{Answered, is-canon, fault-carried}
 use Rattle.rdfc_canon.proofs.canon.canonical_form.Goals as goal

@@ -1,17 +1,17 @@
 use Rattle.std.proofs.Common.{refl, ap, ◌∙◌, map, sym}
-use Rattle.rdfc_ndegree.specs.Kept.{group_in}
+use Rattle.rdfc_ndegree.specs.Table.{group_in}
 use Rattle.rdfc_ndegree.specs.Run.{alone}
 use Rattle.rdfc_ndegree.proofs.Loops.{handed_on}
 use Rattle.rdfc_ndegree.proofs.TableCarry.{table-lawful}
-use Rattle.rdfc_canon.specs.Numbering.{name_all}
+use Rattle.rdfc_ndegree.specs.NumberIssuers.{issue_numbers}
 use Rattle.rdfc_canon.proofs.Runs.{run-start, run-turn, run-fault, run-finish}
 use Rattle.rdfc_canon.proofs.numbering.run.Goals as goal
 
 pub loop-group-init : goal.loop-group-init
 loop-group-init c =
     let groups = c.deref-group-items.ensures.value in
-    run-start c.args.table.now c.name_alone.new.canonical c.deref-group-items.result.now record { spent = 0; limits = c.args.limits.now } refl
-    (c.in_ok-name_alone.ensures ∙ (λ i. name_all (c.in_ok-canonical.ensures i) (alone (map group_in ((c.as_slice.ensures.value ∙ sym groups) i)))))
+    run-start c.args.table.now c.issue_alone.new.canonical c.deref-group-items.result.now record { spent = 0; limits = c.args.limits.now } refl
+    (c.in_ok-issue_alone.ensures ∙ (λ i. issue_numbers (c.in_ok-canonical.ensures i) (alone (map group_in ((c.as_slice.ensures.value ∙ sym groups) i)))))
     (ap (map group_in) groups ∙ c.in_ok-groups.ensures.groups)
 
 pub returns-in_err-tied-clause-fault : goal.returns-in_err-tied-clause-fault

@@ -1,5 +1,5 @@
 use Rattle.std.proofs.Common.{◌≡◌, length}
-use Rattle.rdfc_canon.specs.Numbering.{neighbours_tie}
+use Rattle.rdfc_canon.specs.Internal.Numbering.{neighbours_tie}
 use Rattle.rdfc_canon.proofs.rounds.meets_tie.Given as goal
 
 abbrev pub invariant-loop-path : goal.invariant-loop-path

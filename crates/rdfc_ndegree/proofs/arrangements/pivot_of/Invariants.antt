@@ -1,5 +1,5 @@
 use Rattle.std.proofs.Common.{◌-◌, ◌≤◌, drop, length}
-use Rattle.rdfc_ndegree.specs.Sequences.{Falls}
+use Rattle.rdfc_ndegree.specs.Internal.Sequences.{Falls}
 use Rattle.rdfc_ndegree.proofs.arrangements.pivot_of.Given as goal
 
 abbrev pub invariant-loop-end : goal.invariant-loop-end

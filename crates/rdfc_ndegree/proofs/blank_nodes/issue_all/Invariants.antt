@@ -1,6 +1,6 @@
 use Rattle.std.proofs.Common.{◌≡◌, drop}
-use Rattle.rdfc_ndegree.specs.Requests.{issued}
+use Rattle.rdfc_ndegree.specs.NumberIssuers.{issue_numbers}
 use Rattle.rdfc_ndegree.proofs.blank_nodes.issue_all.Given as goal
 
 abbrev pub invariant-loop-number : goal.invariant-loop-number
-invariant-loop-number l = issued l.initial.issuer l.numbers ≡ issued l.issuer (drop l.number-index l.numbers)
+invariant-loop-number l = issue_numbers l.initial.issuer l.numbers ≡ issue_numbers l.issuer (drop l.number-index l.numbers)

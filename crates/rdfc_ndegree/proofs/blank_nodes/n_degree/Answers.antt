@@ -3,8 +3,8 @@ use Rattle.std.specs.Prelude.{All}
 use Rattle.std.specs.List.{filter_map}
 use Rattle.std.proofs.lemmas.List.Elements.{All-from_recursion}
 use Rattle.rdfc_ndegree.specs.declared.limits.CanonFault.TheVariants as fault
-use Rattle.rdfc_ndegree.specs.Building.{names_of, number_among}
-use Rattle.rdfc_ndegree.specs.Requests.{name_at}
+use Rattle.rdfc_ndegree.specs.Table.{names_of, number_among}
+use Rattle.rdfc_ndegree.specs.Internal.Building.{name_at}
 use Rattle.rdfc_ndegree.proofs.BuildLemmas.{number-None}
 use Rattle.rdfc_ndegree.proofs.RequestLemmas.{number-inside, numbers-inside, steps, call_carried, answers, over, deep}
 use Rattle.rdfc_ndegree.proofs.blank_nodes.n_degree.Goals as goal

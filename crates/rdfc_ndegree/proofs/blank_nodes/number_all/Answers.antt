@@ -1,5 +1,5 @@
 use Rattle.std.proofs.Common.{◌∙◌}
-use Rattle.rdfc_ndegree.specs.Building.{names_of}
+use Rattle.rdfc_ndegree.specs.Table.{names_of}
 use Rattle.rdfc_ndegree.proofs.RequestLemmas.{last-named}
 use Rattle.rdfc_ndegree.proofs.blank_nodes.number_all.Goals as goal
 

@@ -1,6 +1,6 @@
 use Rattle.std.proofs.Common.{◌≡◌, ◌++◌, drop}
 use Rattle.std.specs.List.{filter_map}
-use Rattle.rdfc_ndegree.specs.Building.{names_of, number_among}
+use Rattle.rdfc_ndegree.specs.Table.{names_of, number_among}
 use Rattle.rdfc_ndegree.proofs.blank_nodes.numbers_of.Given as goal
 
 abbrev pub invariant-loop-text : goal.invariant-loop-text

@@ -1,6 +1,6 @@
 use Rattle.std.proofs.Common.{◌≡◌, ◌++◌, drop}
 use Rattle.std.specs.List.{filter_map}
-use Rattle.rdfc_ndegree.specs.Requests.{name_at}
+use Rattle.rdfc_ndegree.specs.Internal.Building.{name_at}
 use Rattle.rdfc_ndegree.proofs.blank_nodes.texts_of.Given as goal
 
 abbrev pub invariant-loop-number : goal.invariant-loop-number

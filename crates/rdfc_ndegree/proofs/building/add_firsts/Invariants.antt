@@ -1,5 +1,6 @@
 use Rattle.std.proofs.Common.{◌≡◌, drop}
-use Rattle.rdfc_ndegree.specs.Building.{names_of, with_rows}
+use Rattle.rdfc_ndegree.specs.Table.{names_of}
+use Rattle.rdfc_ndegree.specs.Internal.Building.{with_rows}
 use Rattle.rdfc_ndegree.proofs.building.add_firsts.Given as goal
 
 abbrev pub invariant-loop-first : goal.invariant-loop-first

@@ -2,7 +2,8 @@ use Rattle.std.proofs.Common.{ap, ◌∙◌, sym, subst, map}
 use Rattle.std.specs.Prelude.{All, Contains}
 use Rattle.rdfc_ndegree.specs.Table.{IsClosed}
 use Rattle.rdfc_ndegree.specs.TableOf.{IsTableWith}
-use Rattle.rdfc_ndegree.specs.Building.{names_of, parts_of}
+use Rattle.rdfc_ndegree.specs.Table.{names_of}
+use Rattle.rdfc_ndegree.specs.Internal.Building.{parts_by_number}
 use Rattle.rdfc_ndegree.proofs.BuildLemmas.{names-all}
 use Rattle.rdfc_ndegree.proofs.TableLemmas.{built-made, built-closed, built-with, built-named}
 use Rattle.rdfc_ndegree.proofs.building.node_table.Goals as goal
@@ -15,7 +16,7 @@ from_rows-requires-clause-closed c =
 pub from_rows-requires-clause-named : goal.from_rows-requires-clause-named
 from_rows-requires-clause-named c =
     c.in_ok-add_others.ensures.names
-    ∙ sym (names-all c.add_others.new.rows.items (map (parts_of c.add_others.new.names) c.as_slice.result.now))
+    ∙ sym (names-all c.add_others.new.rows.items (map (parts_by_number c.add_others.new.names) c.as_slice.result.now))
     ∙ ap names_of (sym c.in_ok-relate_all.ensures)
 
 pub returns-clause-table : goal.returns-clause-table

@@ -1,6 +1,6 @@
 use Rattle.std.proofs.Common.{◌≡◌, ◌<◌, ◌≤◌, ◌+◌, ◌*◌, ◌++◌, ◌∙◌, ap, arith, rules, All, IsNone, length, get_or, ⊎_elim}
 use Rattle.std.proofs.lemmas.List.Elements.{All-nil}
-use Rattle.rdfc_ndegree.specs.NDegree.{entry}
+use Rattle.rdfc_ndegree.specs.NDegree.{path_part}
 use Rattle.rdfc_ndegree.proofs.Rows.{unnamed}
 use Rattle.rdfc_ndegree.proofs.Loops.{handed_on, is_none, member-start, member-rows, member-less, member-turn, member-fault, member-blocked, member-end, counting-start, group-turn, group-fault, group-end, arrangement-rows, arrangement-turn, arrangement-fault, arrangement-full, arrangement-end}
 use Rattle.rdfc_ndegree.proofs.Steps.{choosing-start}
@@ -85,26 +85,26 @@ evaluate-call-requires t c =
     let w = c.in_ok-path.ensures c.args.table.now in
     let each = member-rows c.args.table.now c.requires.nodes c.args.canonical.now c.args.issuer.now c.args.arrangement.now c.as_slice-member-items.result.now (c.as_slice-member-items.ensures ∙ w.2) c.requires.arrangement in
     let less = member-less c.args.table.now c.requires.nodes c.args.canonical.now c.as_slice-member-items.result.now c.loop-member.member-index c.loop-member.invariant w.1 (c.as_slice-member-items.ensures ∙ w.2) c.loop-member-test.true c.requires.arrangement in
-    let begun : c.in_ok-begun.begun ≡ c.loop-member.given = c.in_ok-begun.ensures in
+    let begun : c.in_ok-begin_with.begin_with ≡ c.loop-member.current = c.in_ok-begin_with.ensures in
     let same = ap (unnamed c.args.table.now c.args.canonical.now) begun in
-    let falls : 3 * unnamed c.args.table.now c.args.canonical.now c.in_ok-begun.begun + 2 < t = omega (arith, c.decreases) in
+    let falls : 3 * unnamed c.args.table.now c.args.canonical.now c.in_ok-begin_with.begin_with + 2 < t = omega (arith, c.decreases) in
     (search rules, (c.requires.nodes, (each c.loop-member.member-index 0 c.loop-member-test.true, (rw begun c.loop-member.invariant.inside, omega arith))))
 
 pub evaluate-returns-in_err-nested-clause-fault : goal.evaluate-returns-in_err-nested-clause-fault
 evaluate-returns-in_err-nested-clause-fault t c =
     let w = c.in_ok-path.ensures c.args.table.now in
     let each = member-rows c.args.table.now c.requires.nodes c.args.canonical.now c.args.issuer.now c.args.arrangement.now c.as_slice-member-items.result.now (c.as_slice-member-items.ensures ∙ w.2) c.requires.arrangement in
-    let begun : c.in_ok-begun.begun ≡ c.loop-member.given = c.in_ok-begun.ensures in
+    let begun : c.in_ok-begin_with.begin_with ≡ c.loop-member.current = c.in_ok-begin_with.ensures in
     let h = rw begun at c.in_err-nested.ensures.fault in
     handed_on _ c.in_err-nested.field-0.0 _ c.from_residual-in_err-nested.ensures.1
     (member-fault c.args.table.now c.requires.nodes c.args.canonical.now c.as_slice-member-items.result.now c.loop-member.member-index c.loop-member-test.true each c.loop-member.invariant c.in_err-nested.field-0.0 h)
 
 pub evaluate-loop-member-preserved : goal.evaluate-loop-member-preserved
 evaluate-loop-member-preserved t c =
-    let begun : c.in_ok-begun.begun ≡ c.loop-member.given = c.in_ok-begun.ensures in
+    let begun : c.in_ok-begin_with.begin_with ≡ c.loop-member.current = c.in_ok-begin_with.ensures in
     let a = rw begun at c.in_ok-nested.ensures.ok in
-    let path : c.push_entry.new.path.items ≡ c.loop-member.path.items ++ entry (table_nodes c.args.table.now) c.loop-member.given (get_or c.as_slice-member-items.result.now c.loop-member.member-index 0) c.in_ok-nested.nested.hash =
-    rw c.as_slice-in-loop-member.ensures at (c.in_ok-push_entry.ensures c.args.table.now) in
+    let path : c.push_path_part.new.path.items ≡ c.loop-member.path.items ++ path_part (table_nodes c.args.table.now) c.loop-member.current (get_or c.as_slice-member-items.result.now c.loop-member.member-index 0) c.in_ok-nested.nested.hash =
+    rw c.as_slice-in-loop-member.ensures at (c.in_ok-push_path_part.ensures c.args.table.now) in
     let ties = rw c.as_slice.ensures.value at c.in_ok-note_tie.ensures in
     rw (path, ties)
     (member-turn c.args.table.now c.requires.nodes c.args.canonical.now c.as_slice-member-items.result.now c.loop-member.member-index c.call.new.meter c.loop-member-test.true c.loop-member.invariant a c.in_ok-nested.ensures.inside c.in_ok-nested.ensures.limits c.in_ok-nested.ensures.kept)

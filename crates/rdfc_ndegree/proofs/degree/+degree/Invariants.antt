@@ -15,13 +15,13 @@ abbrev pub decreases-evaluate : goal.decreases-evaluate
 decreases-evaluate l = 3 * unnamed l.table.now l.canonical.now l.issuer.now
 
 abbrev pub invariant-call-loop-group : goal.invariant-call-loop-group
-invariant-call-loop-group l = InGroupLoop l.table l.canonical l.node l.initial.chosen l.text.items l.chosen l.tie (drop l.group-index l.group-items) l.initial.meter l.meter l.depth
+invariant-call-loop-group l = InGroupLoop l.table l.canonical l.node l.initial.current l.text.items l.current l.tie (drop l.group-index l.group-items) l.initial.meter l.meter l.depth
 
 abbrev pub invariant-choose-loop-best : goal.invariant-choose-loop-best
 invariant-choose-loop-best l = InArrangementLoop l.table l.canonical l.issuer l.members l.left l.best.path l.best.issuer l.best.sharing l.best.ties.items l.initial.meter l.meter l.depth
 
 abbrev pub invariant-evaluate-loop-member : goal.invariant-evaluate-loop-member
-invariant-evaluate-loop-member l = InMemberLoop l.table l.canonical l.issuer l.arrangement l.path.items l.initial.given l.given l.ties.items (drop l.member-index l.member-items) l.initial.meter l.meter l.depth
+invariant-evaluate-loop-member l = InMemberLoop l.table l.canonical l.issuer l.arrangement l.path.items l.initial.current l.current l.ties.items (drop l.member-index l.member-items) l.initial.meter l.meter l.depth
 
 abbrev pub decreases-choose-loop-best : goal.decreases-choose-loop-best
 decreases-choose-loop-best l = length l.left

@@ -1,5 +1,5 @@
 use Rattle.std.proofs.Common.{ap, ◌∙◌, string_bytes}
-use Rattle.rdfc_ndegree.specs.Building.{number_among}
+use Rattle.rdfc_ndegree.specs.Table.{number_among}
 use Rattle.rdfc_ndegree.proofs.NameLemmas.{position-number}
 use Rattle.rdfc_ndegree.proofs.names.Names.number_of.Goals as goal
 

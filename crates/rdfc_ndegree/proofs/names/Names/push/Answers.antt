@@ -1,5 +1,5 @@
 use Rattle.std.proofs.Common.{◌≡◌, None, ap, ◌∙◌, map, string_bytes, ◌++◌, ◌∷◌, []}
-use Rattle.rdfc_ndegree.specs.Building.{number_among}
+use Rattle.rdfc_ndegree.specs.Table.{number_among}
 use Rattle.rdfc_ndegree.proofs.NameLemmas.{insert_key-new}
 use Rattle.rdfc_ndegree.proofs.names.Names.push.Goals as goal
 

@@ -1,6 +1,0 @@
-use Rattle.std.proofs.Common.{◌≡◌, drop, []}
-use Rattle.rdfc_canon.specs.Labelling.{all_labels}
-use Rattle.rdfc_canon.proofs.relabel.labels_of.Given as goal
-
-abbrev pub invariant-loop-node : goal.invariant-loop-node
-invariant-loop-node l = all_labels l.table [] l.order ≡ all_labels l.table l.labels (drop l.node-index l.order)

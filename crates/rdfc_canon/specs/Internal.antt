@@ -1,0 +1,3 @@
+pub mod Form
+pub mod Labelling
+pub mod Numbering

@@ -1,0 +1,24 @@
+-- How the program groups nodes by hash: one more at the end of the groups.
+use Rattle.std.specs.Prelude.{◌++◌, bytes_eq, Bool, false, ℕ, List, [], ◌∷◌, if◌then◌else◌}
+use Rattle.rdfc_ndegree.specs.Groups.{NodeHash, Group}
+use Rattle.rdfc_ndegree.specs.declared.related.HashedNode.{HashedNode}
+
+-- a number with its hash, and a group, as the definitions have them
+abbrev pub node_hash : HashedNode → NodeHash ℕ
+node_hash h = record { hash = h.hash; node = h.node }
+
+-- the group of one node
+abbrev pub group_of_one : {B : Type 0} → NodeHash B → Group B
+group_of_one h = record { hash = h.hash; members = h.node ∷ [] }
+
+-- whether there is a last group and it has the hash
+abbrev pub last_has_hash : {B : Type 0} → List (Group B) → List ℕ → Bool
+last_has_hash [] hash = false
+last_has_hash (g ∷ []) hash = bytes_eq g.hash hash
+last_has_hash (g ∷ k ∷ gs) hash = last_has_hash (k ∷ gs) hash
+
+-- the groups with a node that comes after all theirs: in the last one if it has its hash, and else in its own
+abbrev pub add_to_groups : {B : Type 0} → List (Group B) → NodeHash B → List (Group B)
+add_to_groups [] h = group_of_one h ∷ []
+add_to_groups (g ∷ []) h = if bytes_eq g.hash h.hash then record { hash = g.hash; members = g.members ++ h.node ∷ [] } ∷ [] else g ∷ (group_of_one h ∷ [])
+add_to_groups (g ∷ k ∷ gs) h = g ∷ add_to_groups (k ∷ gs) h
