@@ -32,8 +32,8 @@ use Rattle.rdfc_canon.specs.Internal.Form.{IsCanon}
 use Rattle.rdfc_canon.specs.Internal.Labelling.{all_labels}
 use Rattle.rdfc_canon.specs.Internal.Numbering.{AnswersNumbers}
 use Rattle.rdfc_canon.specs.declared.canon.Canon.{Canon}
-use Rattle.rdfc_ndegree.proofs.Steps.{same_fault}
-use Rattle.rdfc_canon.proofs.Labels.{labels-made, labels-blanks, labels-length, numbered, label_in-is, lines-agree, dataset-named}
+use Rattle.rdfc_ndegree.proofs.ProgressLaws.{same_fault}
+use Rattle.rdfc_canon.proofs.Labels.{labels-made, labels-blanks, labels-length, numbered, label_in-is, lines-agree}
 
 -- ---- the labels of a run
 
@@ -60,9 +60,6 @@ module _ (q : List Statement) (r : RunOutcome Blank) (d : IsRun (nodes q) r) whe
         numbered = numbered q [] r.issuer differs refl ∙ ap canonical_ids (sym (labels-length q r.issuer));
       }
 
-  pub run-named : All (Names (canonical_labels q r.issuer)) (map text_quad q)
-  run-named = dataset-named q r.issuer covers
-
   pub run-lines : canonical_lines (label_in (canonical_labels q r.issuer)) q ≡ canonical_lines (canonical_id (nodes q) r.issuer) q
   run-lines = lines-agree q (label_in (canonical_labels q r.issuer)) (canonical_id (nodes q) r.issuer) (λ b k. label_in-is q r.issuer b (covers b k))
 
@@ -86,52 +83,50 @@ module _ (q : List Statement) (firsts : List BlankHash) (rows : List NodeRow) (t
       labels-made q t.nodes rows t.table [] r.issuer (issuer-differs (table-lawful rows closed) r d) tt (table-issuer q t.nodes rows t.table (all-stand q firsts rows t) r d)
 
 -- What `canonicalise` has at hand: a run over the table, its labels, and lines under them.
-pub record Answered (q : List Statement) (firsts : List BlankHash) (rows : List NodeRow) (quads : List TextQuad) (work_limit depth_limit : ℕ) (labels : List TextLabel) (lines : List (List ℕ)) (tie : Bool) (work : ℕ) : Type 0 where
+pub record Answered (q : List Statement) (firsts : List BlankHash) (rows : List NodeRow) (limits : Limits) (c : Canon) : Type 0 where
   pub issuer : List ℕ
-  pub is : quads ≡ map text_quad q
   pub table : IsTableWith q firsts [] rows
   pub closed : IsClosed rows
-  pub numbers : AnswersNumbers (table_nodes rows) work_limit depth_limit issuer tie work
-  pub labels_are : labels ≡ all_labels rows [] issuer
-  pub lines_are : All (Names labels) quads → lines ≡ canonical_lines (label_in labels) q
+  pub numbers : AnswersNumbers (table_nodes rows) limits issuer c.tie c.work
+  pub labels_are : c.labels ≡ all_labels rows [] issuer
+  pub lines_are : c.lines ≡ canonical_lines (label_in c.labels) q
 
-module _ {q : List Statement} {firsts : List BlankHash} {rows : List NodeRow} {quads : List TextQuad} {work_limit depth_limit : ℕ} {labels : List TextLabel} {lines : List (List ℕ)} {tie : Bool} {work : ℕ} (a : Answered q firsts rows quads work_limit depth_limit labels lines tie work) where
+module _ {q : List Statement} {firsts : List BlankHash} {rows : List NodeRow} {limits : Limits} {c : Canon} (a : Answered q firsts rows limits c) where
   abbrev its_run : RunOutcome Blank
   its_run = result_f (at a.table.nodes) a.numbers.run
 
   is_run : IsRun (nodes q) its_run
   is_run = run-there q firsts rows a.table a.numbers.run a.numbers.is_run
 
-  labels_are : labels ≡ canonical_labels q its_run.issuer
+  labels_are : c.labels ≡ canonical_labels q its_run.issuer
   labels_are = a.labels_are ∙ ap (all_labels rows []) a.numbers.issuer_is ∙ labels-there q firsts rows a.table a.closed a.numbers.run a.numbers.is_run
 
-  pub answers-run : AnswersRun q work_limit depth_limit labels lines tie work
+  answers-run : AnswersRun q limits c
   answers-run = record {
     run = its_run;
     is_run = is_run;
     labels_are = labels_are;
-    lines_are =
-        a.lines_are (subst (λ ls. All (Names ls) quads) (sym labels_are) (subst (All (Names (canonical_labels q its_run.issuer))) (sym a.is) (run-named q its_run is_run)))
-        ∙ ap (λ ls. canonical_lines (label_in ls) q) labels_are ∙ run-lines q its_run is_run;
+    lines_are = a.lines_are ∙ ap (λ ls. canonical_lines (label_in ls) q) labels_are ∙ run-lines q its_run is_run;
     tie_is = a.numbers.tie_is;
     work_is = a.numbers.work_is;
     within_work = a.numbers.within_work;
     within_depth = a.numbers.within_depth;
   }
 
-  pub answers-names : NameAll q labels
+  answers-names : NameAll q c.labels
   answers-names = subst (NameAll q) (sym labels_are) (run-names q its_run is_run)
 
-  pub answers-tie : (tie ≡ true) ↔ MeetsTie (nodes q)
+  answers-tie : (c.tie ≡ true) ↔ MeetsTie (nodes q)
   answers-tie =
       let exactly = tie-exactly is_run in
       ((λ e. exactly.0 (sym a.numbers.tie_is ∙ e)), (λ m. a.numbers.tie_is ∙ exactly.1 m))
 
-  pub answers-every : tie ≡ false → (r : RunOutcome Blank) → IsRun (nodes q) r → labels ≡ canonical_labels q r.issuer
+  answers-every : c.tie ≡ false → (r : RunOutcome Blank) → IsRun (nodes q) r → c.labels ≡ canonical_labels q r.issuer
   answers-every e r d = labels_are ∙ ap (canonical_labels q) ((runs-agree is_run d).1 (sym a.numbers.tie_is ∙ e))
 
-pub is-canon : {q : List Statement} {firsts : List BlankHash} {rows : List NodeRow} {quads : List TextQuad} {limits : Limits} {c : Canon} → Answered q firsts rows quads limits.work limits.depth c.labels c.lines c.tie c.work → IsCanon q limits c
-is-canon a = record { answers = answers-run a; names = answers-names a; tie = answers-tie a; every = answers-every a }
+  -- the answer, with its four clauses
+  pub is-canon : IsCanon q limits c
+  is-canon = record { answers = answers-run; names = answers-names; tie = answers-tie; every = answers-every }
 
 pub fault-carried : (q : List Statement) (firsts : List BlankHash) (rows : List NodeRow) (limits : Limits) (e : CanonFault) → IsTableWith q firsts [] rows → IsFaultOf limits (WorkOver (table_nodes rows)) (DepthOver (table_nodes rows)) e
     → IsFaultOf limits (WorkOver (nodes q)) (DepthOver (nodes q)) e

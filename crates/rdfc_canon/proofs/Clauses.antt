@@ -12,7 +12,7 @@ use Rattle.rdfc_canon.specs.Internal.Form.{Canonicalised}
 use Rattle.rdfc_canon.specs.declared.canon.Canon.{Canon}
 
 module _ (q : List Statement) (limits : Limits) where
-  pub clause-ok : (r : Result Canon CanonFault) → Canonicalised q limits r → IfOk r (λ (c : Canon). AnswersRun q limits.work limits.depth c.labels c.lines c.tie c.work)
+  pub clause-ok : (r : Result Canon CanonFault) → Canonicalised q limits r → IfOk r (λ (c : Canon). AnswersRun q limits c)
   clause-ok (Ok c) h = h.answers
   clause-ok (Err e) h = tt
 
@@ -24,7 +24,7 @@ module _ (q : List Statement) (limits : Limits) where
   clause-tie (Ok c) h = h.tie
   clause-tie (Err e) h = tt
 
-  pub clause-every : (r : Result Canon CanonFault) → Canonicalised q limits r → IfOk r (λ (c : Canon). c.tie ≡ false → (s : run.Result Blank) → IsRun (nodes q) s → c.labels ≡ canonical_labels q s.issuer)
+  pub clause-every : (r : Result Canon CanonFault) → Canonicalised q limits r → IfOk r (λ (c : Canon). c.tie ≡ false → (s : run.RunOutcome Blank) → IsRun (nodes q) s → c.labels ≡ canonical_labels q s.issuer)
   clause-every (Ok c) h = h.every
   clause-every (Err e) h = tt
 

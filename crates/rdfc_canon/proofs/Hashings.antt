@@ -20,12 +20,12 @@ use Rattle.rdfc_ndegree.specs.declared.limits.Limits.{Limits}
 use Rattle.rdfc_ndegree.specs.declared.limits.Meter.{Meter}
 use Rattle.rdfc_ndegree.specs.declared.path.NodePath.{NodePath}
 use Rattle.rdfc_ndegree.specs.declared.table.NodeRow.{NodeRow}
-use Rattle.rdfc_ndegree.proofs.Basics.{AllZip-append}
-use Rattle.rdfc_ndegree.proofs.CarryBasics.{AllZip-permutation}
+use Rattle.rdfc_ndegree.proofs.Membership.{AllZip-append}
+use Rattle.rdfc_ndegree.proofs.Permutations.{AllZip-permutation}
 use Rattle.rdfc_ndegree.proofs.Exists.{results-exist, lacking-listed}
 use Rattle.rdfc_ndegree.proofs.Loops.{Counting, counting-turn}
 use Rattle.rdfc_ndegree.proofs.Rows.{rows-listed}
-use Rattle.rdfc_ndegree.proofs.Steps.{same_fault}
+use Rattle.rdfc_ndegree.proofs.ProgressLaws.{same_fault}
 use Rattle.rdfc_ndegree.proofs.Tables.{table-has}
 use Rattle.rdfc_ndegree.proofs.Walks.{drop-next}
 use Rattle.rdfc_ndegree.proofs.RunCarry.{results_tie-permuted}
@@ -91,7 +91,7 @@ module _ (v : Nodes ℕ) (c : List ℕ) where
         within = omega arith;
       }
 
-  pub hashing-end : {members : List ℕ} {paths : List NodePath} {old spent limit : ℕ} → Hashing v c members paths [] old spent limit → AnswersHashes v c (lacking v c members) paths old spent limit
+  pub hashing-end : {members : List ℕ} {paths : List NodePath} {old spent limit : ℕ} → Hashing v c members paths [] old spent limit → AnswersHashes v c (lacking v c members) paths (spending_of old spent 1 limit)
   hashing-end {members = members} w = record {
     outcomes = w.done;
     hashed = subst (AllZip (HashesAlone v c) (lacking v c members)) (append-nil w.done) (w.goes_on [] tt);
@@ -159,7 +159,7 @@ module _ (rows : List NodeRow) where
       → next.limits ≡ meter.limits → (meter.spent ≤ meter.limits.work → next.spent ≤ meter.limits.work)
       → InHashLoop rows c ms (paths ++ path ∷ []) (drop (k + 1) ms) before next
   hash-turn c ms k m {paths = paths} {before = before} {meter = meter} path next lt is e w a same kept = record {
-    counting = counting-turn w.counting same kept;
+    counting = let sum = a.spent in counting-turn w.counting same (omega arith) kept;
     hashing =
         hashing-turn (table_nodes rows) c path next.spent e
         (subst (λ ns. Hashing (table_nodes rows) c ms paths ns before.spent meter.spent before.limits.depth) (drop-next ms k m lt is) w.hashing)
@@ -176,15 +176,15 @@ module _ (rows : List NodeRow) where
       same_fault w.counting.limits (λ n d. hashing-over (table_nodes rows) c laws new here listed n d) (λ n d. hashing-deep (table_nodes rows) c laws new here listed n d) e h
 
   pub hash-end : (c ms : List ℕ) (k : ℕ) {paths : List NodePath} {before meter : Meter} → length ms ≤ k → InHashLoop rows c ms paths (drop k ms) before meter
-      → AnswersHashes (table_nodes rows) c (lacking (table_nodes rows) c ms) paths before.spent meter.spent before.limits.depth
+      → AnswersHashes (table_nodes rows) c (lacking (table_nodes rows) c ms) paths (spending_of before.spent meter.spent 1 before.limits.depth)
   hash-end c ms k {paths = paths} {before = before} {meter = meter} past w =
       hashing-end (table_nodes rows) c (subst (λ ns. Hashing (table_nodes rows) c ms paths ns before.spent meter.spent before.limits.depth) (drop_of_length-le ms past) w.hashing)
 
   -- the results, put in hash order, and what is made of them
-  pub round-is : (c members d : List ℕ) (paths sorted : List NodePath) (tie : Bool) (old new limit : ℕ) → AnswersHashes (table_nodes rows) c (lacking (table_nodes rows) c members) paths old new limit
+  pub round-is : (c members d : List ℕ) (paths sorted : List NodePath) (tie : Bool) (s : Spending) → AnswersHashes (table_nodes rows) c (lacking (table_nodes rows) c members) paths s
       → IsPermutation paths sorted → IsSortedByKey (λ (p : NodePath). p.hash) text_cmp sorted → tie ≡ neighbours_tie sorted → d ≡ issue_paths c sorted
-      → AnswersRound (table_nodes rows) c members d tie old new limit
-  round-is c members d paths sorted tie old new limit h moved up tie_is issuer_is =
+      → AnswersRound (table_nodes rows) c members d tie s
+  round-is c members d paths sorted tie s h moved up tie_is issuer_is =
       let along = AllZip-permutation IsPathOf paths sorted moved h.outcomes h.paths_are in
       let rises = Up-from_sorted sorted up in
       record {

@@ -2,7 +2,7 @@
 use Rattle.std.proofs.Common.{◌≡◌, ℕ, suc, ◌<◌, ◌==◌, List, [], ◌∷◌, ◌++◌, map, length, All, Contains, Bool, true, false, cond, bytes_eq, Option, Some, None, slice_get, codes, decimal, refl, sym, ap, ◌∙◌, subst, ⊎_elim, arith, append-nil, append_assoc}
 use Rattle.std.specs.Option.{is_some, option_map, unwrap_or, IfSome}
 use Rattle.std.specs.List.{AllByRecursion}
-use Rattle.std.proofs.lemmas.Bool.{false≢true}
+use Rattle.std.proofs.lemmas.Bool.{false≢true, false_from_ne_true}
 use Rattle.std.proofs.lemmas.Bool.Decides.{Decides-eqb}
 use Rattle.std.proofs.lemmas.Option.{slice_get-get_or}
 use Rattle.std.proofs.lemmas.List.{map-append, length-append, length-map}
@@ -10,7 +10,7 @@ use Rattle.std.proofs.lemmas.List.Elements.{Contains-append_left, Contains-appen
 use Rattle.std.proofs.lemmas.List.Sorted.{IsPermutation-middle}
 use Rattle.base_types.specs.Order.{sorted_set}
 use Rattle.base_types.specs.Sets.{AllDiffer}
-use Rattle.base_types.proofs.Lists.{Contains-here, Contains-there, Contains-cons_cases, Contains-nil, Contains-from_map, AllByRecursion-contains}
+use Rattle.base_types.proofs.Lists.{Contains-here, Contains-there, Contains-cons_cases, Contains-nil, Contains-from_map, AllByRecursion-contains, map-map}
 use Rattle.digest_mac.specs.Digests.{sha256_digits}
 use Rattle.nquads.specs.Terms.{Blank, Term, iri, literal, blank, Statement}
 use Rattle.nquads.specs.Renaming.{StandsIn, blanks_of, blanks_of_term, blanks_of_graph}
@@ -25,9 +25,8 @@ use Rattle.rdfc_ndegree.specs.Issuers.{has, canonical_id}
 use Rattle.rdfc_ndegree.specs.Table.{numbers_below}
 use Rattle.rdfc_ndegree.specs.TableOf.{IsRowOf, IsTableOf}
 use Rattle.rdfc_ndegree.specs.declared.table.NodeRow.{NodeRow}
-use Rattle.rdfc_ndegree.proofs.AgreeBasics.{false_unless}
-use Rattle.rdfc_ndegree.proofs.Basics.{has-from_contains, Contains-from_has, number-append, number-new}
-use Rattle.rdfc_ndegree.proofs.CarryBasics.{map-map, map-agree, Each-append, Each-from_contains, Each-weaker, AllDiffer-permutation}
+use Rattle.rdfc_ndegree.proofs.Membership.{has-from_contains, Contains-from_has, number-append, number-new}
+use Rattle.rdfc_ndegree.proofs.Permutations.{map-agree, Each-append, Each-from_contains, Each-weaker, AllDiffer-permutation}
 use Rattle.rdfc_ndegree.proofs.Lawful.{nodes-lawful}
 use Rattle.rdfc_ndegree.proofs.Renamed.{line-agree, InPlace, in_place}
 use Rattle.rdfc_ndegree.proofs.TableCarry.{at, no_blank, at-injective, table-length}
@@ -49,7 +48,7 @@ module _ (f : Blank → List ℕ) where
   pub find-none : (bs : List Blank) (b : Blank) → (Contains bs b → ⊥) → find_label (by_function bs) (blank_text b) ≡ None
   find-none [] b new = refl
   find-none (x ∷ xs) b new =
-      let other : bytes_eq (blank_text x) (blank_text b) ≡ false = false_unless (bytes_eq (blank_text x) (blank_text b)) (λ e. new (subst (Contains (x ∷ xs)) (text-once x b e) (Contains-here x xs))) in
+      let other : bytes_eq (blank_text x) (blank_text b) ≡ false = false_from_ne_true (bytes_eq (blank_text x) (blank_text b)) (λ e. new (subst (Contains (x ∷ xs)) (text-once x b e) (Contains-here x xs))) in
       ap (λ t. cond t (Some (f x)) (find_label (by_function xs) (blank_text b))) other ∙ find-none xs b (λ k. new (Contains-there x xs b k))
 
   pub find-some : (bs : List Blank) (b : Blank) → Contains bs b → find_label (by_function bs) (blank_text b) ≡ Some (f b)
@@ -73,7 +72,7 @@ module _ (q : List Statement) where
   its_label d b = label (blank_text b) (canonical_id (nodes q) d b)
 
   not-has : (d : List Blank) (b : Blank) → (Contains d b → ⊥) → has (nodes q) d b ≡ false
-  not-has d b new = false_unless (has (nodes q) d b) (λ e. new (Contains-from_has (nodes q) (nodes-lawful sha256_digits q) d b e))
+  not-has d b new = false_from_ne_true (has (nodes q) d b) (λ e. new (Contains-from_has (nodes q) (nodes-lawful sha256_digits q) d b e))
 
   -- the next blank node gets the next label
   pub labels-push : (d : List Blank) (b : Blank) → (Contains d b → ⊥) → canonical_labels q (d ++ b ∷ []) ≡ canonical_labels q d ++ label (blank_text b) (codes "c14n" ++ decimal (length d)) ∷ []
@@ -156,33 +155,3 @@ module _ (q : List Statement) where
 
   pub lines-agree : (f g : Blank → List ℕ) → ((b : Blank) → StandsIn q b → f b ≡ g b) → canonical_lines f q ≡ canonical_lines g q
   lines-agree f g h = ap sorted_set (map-agree (InPlace q) (line f) (line g) (λ s p. line-agree f g s (Each-weaker (StandsIn q) (λ b. f b ≡ g b) h (blanks_of s) p)) q (in_place q))
-
-  -- ---- each blank node is named
-
-  not_underscore : {A : Type 0} (n : ℕ) → (n == 95) ≡ false → n ≡ 95 → A
-  not_underscore n f e = absurd (false≢true (sym f ∙ (Decides-eqb n 95).1 e))
-
-  module _ (d : List Blank) where
-    found : (b : Blank) → Contains d b → is_some (find_label (canonical_labels q d) (blank_text b)) ≡ true
-    found b k = ap is_some (find-some (canonical_id (nodes q) d) d b k)
-
-    term-named : (t : Term) → ((b : Blank) → Contains (blanks_of_term t) b → Contains d b) → IsNamed (canonical_labels q d) (spelling t)
-    term-named (iri text) h = λ e. not_underscore 60 refl e
-    term-named (literal text datatype language) h = λ e. not_underscore 34 refl e
-    term-named (blank b) h = λ e. found b (h b (Contains-here b []))
-
-    graph-named : (g : Option Term) → ((b : Blank) → Contains (blanks_of_graph g) b → Contains d b) → IfSome (option_map spelling g) (IsNamed (canonical_labels q d))
-    graph-named None h = tt
-    graph-named (Some t) h = term-named t h
-
-    statement-named : (s : Statement) → ((b : Blank) → Contains (blanks_of s) b → Contains d b) → Names (canonical_labels q d) (text_quad s)
-    statement-named s h = record {
-      subject = term-named s.subject (λ b k. h b (Contains-append_left (blanks_of_term s.subject) (blanks_of_term s.object ++ blanks_of_graph s.graph) b k));
-      object = term-named s.object (λ b k. h b (Contains-append_right (blanks_of_term s.subject) (blanks_of_term s.object ++ blanks_of_graph s.graph) b (Contains-append_left (blanks_of_term s.object) (blanks_of_graph s.graph) b k)));
-      graph = graph-named s.graph (λ b k. h b (Contains-append_right (blanks_of_term s.subject) (blanks_of_term s.object ++ blanks_of_graph s.graph) b (Contains-append_right (blanks_of_term s.object) (blanks_of_graph s.graph) b k)));
-    }
-
-    pub dataset-named : ((b : Blank) → StandsIn q b → Contains d b) → All (Names (canonical_labels q d)) (map text_quad q)
-    dataset-named h = All-from_contains (Names (canonical_labels q d)) (map text_quad q) (λ x k.
-        let from = Contains-from_map text_quad q x k in
-        subst (Names (canonical_labels q d)) from.2 (statement-named from.0 (λ b n. h b (to_blanks_in q from.0 b from.1 n))))

@@ -4,6 +4,6 @@ pub mod Sorting
 pub mod Hashings
 pub mod Runs
 pub mod Labels
-pub mod Lines
+pub mod CanonicalTexts
 pub mod Answering
 pub mod Clauses

@@ -11,7 +11,7 @@ use Rattle.rdfc_ndegree.specs.Run.{alone, if_alone, first_groups, take_issuer, t
 use Rattle.rdfc_ndegree.specs.Table.{table_nodes}
 use Rattle.rdfc_ndegree.specs.declared.path.NodePath.{NodePath}
 use Rattle.rdfc_ndegree.specs.declared.table.NodeRow.{NodeRow}
-use Rattle.rdfc_ndegree.proofs.CarryBasics.{AllDiffer-permutation}
+use Rattle.rdfc_ndegree.proofs.Permutations.{AllDiffer-permutation}
 use Rattle.rdfc_ndegree.proofs.Labels.{alone-differ}
 use Rattle.rdfc_ndegree.proofs.Tables.{absent-any}
 use Rattle.rdfc_ndegree.specs.NumberIssuers.{issue_number, issue_numbers}

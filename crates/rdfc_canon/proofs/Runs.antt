@@ -17,12 +17,14 @@ use Rattle.rdfc_ndegree.specs.declared.limits.Meter.{Meter}
 use Rattle.rdfc_ndegree.specs.declared.related.NodeGroup.{NodeGroup}
 use Rattle.rdfc_ndegree.specs.declared.table.NodeRow.{NodeRow}
 use Rattle.rdfc_ndegree.proofs.Exists.{in_hash_order, rounds-exist}
-use Rattle.rdfc_ndegree.proofs.Loops.{next_item, Counting, counting-start, counting-turn}
+use Rattle.rdfc_ndegree.proofs.Loops.{Counting, counting-start, counting-turn}
 use Rattle.rdfc_ndegree.proofs.Rows.{groups-rows}
-use Rattle.rdfc_ndegree.proofs.Steps.{same_fault}
+use Rattle.rdfc_ndegree.proofs.ProgressLaws.{same_fault}
 use Rattle.rdfc_canon.specs.Internal.Numbering.{AnswersRound, AnswersNumbers, HashesOver, HashesDeep}
 use Rattle.rdfc_ndegree.specs.NumberIssuers.{issue_numbers}
 use Rattle.rdfc_canon.proofs.Namings.{alone-named}
+use Rattle.base_types.proofs.Lists.{drop-next}
+use Rattle.rdfc_ndegree.proofs.Progress.{spending_of}
 
 -- a result with earlier groups in front: their tie, their work and their depth
 abbrev pub run_after : {B : Type 0} → Bool → ℕ → ℕ → RunOutcome B → RunOutcome B
@@ -55,7 +57,7 @@ module _ {B : Type 0} (v : Nodes B) where
     within = omega arith;
   }
 
-  pub running-turn : {c d : List B} {tie tied : Bool} {g : Group B} {gs : List (Group B)} {spent next limit : ℕ} → Running v c tie (g ∷ gs) spent limit → AnswersRound v c g.members d tied spent next limit → Running v d (tie || tied) gs next limit
+  pub running-turn : {c d : List B} {tie tied : Bool} {g : Group B} {gs : List (Group B)} {spent next limit : ℕ} → Running v c tie (g ∷ gs) spent limit → AnswersRound v c g.members d tied (spending_of spent next 1 limit) → Running v d (tie || tied) gs next limit
   running-turn {c = c} {d = d} {tie = tie} {tied = tied} {g = g} {gs = gs} {spent = spent} {next = next} {limit = limit} w a =
       let low : w.deep ≤ limit = w.within in
       let here : depth_of a.outcomes ≤ limit = a.within in
@@ -67,9 +69,9 @@ module _ {B : Type 0} (v : Nodes B) where
         within = omega arith;
       }
 
-  pub running-end : {c : List B} {tie : Bool} {spent work_limit limit : ℕ} → Running v c tie [] spent limit → spent ≤ work_limit → AnswersNumbers v work_limit limit c tie spent
-  running-end {c = c} {tie = tie} {spent = spent} {work_limit = work_limit} {limit = limit} w fits =
-      let low : w.deep ≤ limit = w.within in
+  pub running-end : (limits : Limits) {c : List B} {tie : Bool} {spent : ℕ} → Running v c tie [] spent limits.depth → spent ≤ limits.work → AnswersNumbers v limits c tie spent
+  running-end limits {c = c} {tie = tie} {spent = spent} w fits =
+      let low : w.deep ≤ limits.depth = w.within in
       record {
         run = run_after tie spent w.deep (run_end c);
         is_run = w.goes_on (run_end c) refl;
@@ -122,15 +124,15 @@ module _ (rows : List NodeRow) where
   }
 
   pub run-turn : (gs : List NodeGroup) (k : ℕ) (g : NodeGroup) {c : List ℕ} {tie : Bool} {before meter : Meter} (d : List ℕ) (tied : Bool) (next : Meter) → k < length gs → g ≡ get_or gs k g
-      → InRunLoop rows c tie (drop k gs) before meter → AnswersRound (table_nodes rows) c g.members d tied meter.spent next.spent meter.limits.depth
+      → InRunLoop rows c tie (drop k gs) before meter → AnswersRound (table_nodes rows) c g.members d tied (spending_of meter.spent next.spent 1 meter.limits.depth)
       → next.limits ≡ meter.limits → (meter.spent ≤ meter.limits.work → next.spent ≤ meter.limits.work)
       → InRunLoop rows d (tie || tied) (drop (k + 1) gs) before next
   run-turn gs k g {c = c} {tie = tie} {before = before} {meter = meter} d tied next lt is w a same kept = record {
-    counting = counting-turn w.counting same kept;
+    counting = let sum = a.spent in counting-turn w.counting same (omega arith) kept;
     running =
         running-turn (table_nodes rows)
-        (subst (λ r. Running (table_nodes rows) c tie (map group_in r) meter.spent before.limits.depth) (next_item gs k g lt is) w.running)
-        (subst (λ (l : Limits). AnswersRound (table_nodes rows) c g.members d tied meter.spent next.spent l.depth) w.counting.limits a);
+        (subst (λ r. Running (table_nodes rows) c tie (map group_in r) meter.spent before.limits.depth) (drop-next gs k g lt is) w.running)
+        (subst (λ (l : Limits). AnswersRound (table_nodes rows) c g.members d tied (spending_of meter.spent next.spent 1 l.depth)) w.counting.limits a);
   }
 
   pub run-fault : AreNodes (table_nodes rows) → (gs : List NodeGroup) (k : ℕ) (g : NodeGroup) {c : List ℕ} {tie : Bool} {before meter : Meter} → k < length gs → g ≡ get_or gs k g
@@ -139,12 +141,12 @@ module _ (rows : List NodeRow) where
       → IsFaultOf before.limits (WorkOver (table_nodes rows)) (DepthOver (table_nodes rows)) e
   run-fault laws gs k g {c = c} {tie = tie} {before = before} {meter = meter} lt is all w e h =
       let here : Running (table_nodes rows) c tie (group_in g ∷ map group_in (drop (k + 1) gs)) meter.spent before.limits.depth =
-      subst (λ r. Running (table_nodes rows) c tie (map group_in r) meter.spent before.limits.depth) (next_item gs k g lt is) w.running in
+      subst (λ r. Running (table_nodes rows) c tie (map group_in r) meter.spent before.limits.depth) (drop-next gs k g lt is) w.running in
       let listed = groups-rows rows (drop (k + 1) gs) (All-drop (λ (x : NodeGroup). All (λ m. m < length rows) x.members) (k + 1) gs all) in
       same_fault w.counting.limits (λ n d. running-over laws listed here n d) (λ n d. running-deep laws listed here n d) e h
 
   pub run-finish : (gs : List NodeGroup) (k : ℕ) {c : List ℕ} {tie : Bool} {before meter : Meter} → length gs ≤ k → before.spent ≡ 0 → InRunLoop rows c tie (drop k gs) before meter
-      → AnswersNumbers (table_nodes rows) before.limits.work before.limits.depth c tie meter.spent
+      → AnswersNumbers (table_nodes rows) before.limits c tie meter.spent
   run-finish gs k {c = c} {tie = tie} {before = before} {meter = meter} past none w =
       let fits : before.spent ≤ before.limits.work = omega arith in
-      running-end (table_nodes rows) (subst (λ r. Running (table_nodes rows) c tie (map group_in r) meter.spent before.limits.depth) (drop_of_length-le gs past) w.running) (w.counting.kept fits)
+      running-end (table_nodes rows) before.limits (subst (λ r. Running (table_nodes rows) c tie (map group_in r) meter.spent before.limits.depth) (drop_of_length-le gs past) w.running) (w.counting.kept fits)

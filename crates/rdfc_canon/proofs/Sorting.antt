@@ -4,16 +4,14 @@ use Rattle.std.specs.List.{AllByRecursion, AllZip, list_any}
 use Rattle.std.specs.List.Sorted.{IsSortedByKey}
 use Rattle.std.specs.Cmp.Lexicographic.{nat_list_cmp_total}
 use Rattle.std.specs.Ordering.{is_lt}
-use Rattle.std.proofs.lemmas.Bool.{false≢true, or_from}
+use Rattle.std.proofs.lemmas.Bool.{false≢true, or_from, false_from_ne_true}
 use Rattle.std.proofs.lemmas.List.Elements.{All-from_recursion, recursion_from_All}
 use Rattle.std.proofs.lemmas.List.Sorted.{sorted_far, ranks_by}
 use Rattle.base_types.specs.Order.{is_upto}
-use Rattle.base_types.proofs.Orders.{text_cmp, is_upto-antisymmetric}
+use Rattle.base_types.proofs.Orders.{text_cmp, is_upto-antisymmetric, upto_if, bytes_eq-true, bytes_eq-same}
 use Rattle.rdfc_ndegree.specs.NDegree.{Outcome}
 use Rattle.rdfc_ndegree.specs.Run.{InHashOrder, results_tie}
 use Rattle.rdfc_ndegree.specs.declared.path.NodePath.{NodePath}
-use Rattle.rdfc_ndegree.proofs.AgreeBasics.{bytes_eq-true, bytes_eq-same, false_unless}
-use Rattle.rdfc_ndegree.proofs.Grouping.{upto_if}
 use Rattle.rdfc_canon.specs.Internal.Numbering.{IsPathOf, next_has, neighbours_tie}
 
 -- each path's hash is up to those after it
@@ -53,7 +51,7 @@ none_later h l apart upto [] (o ∷ os) z all = absurd z
 none_later h l apart upto (p ∷ ps) [] z all = absurd z
 none_later h l apart upto (p ∷ ps) (o ∷ os) z all =
     or_from (bytes_eq o.hash h) (list_any (λ (q : Outcome ℕ). bytes_eq q.hash h) os)
-    (false_unless (bytes_eq o.hash h) (λ e.
+    (false_from_ne_true (bytes_eq o.hash h) (λ e.
     let back : is_upto l h ≡ true = subst (λ t. is_upto l t ≡ true) (z.0.hash ∙ bytes_eq-true o.hash h e) all.0 in
     false≢true (sym apart ∙ bytes_eq-same l h (is_upto-antisymmetric l h back upto))))
     (none_later h l apart upto ps os z.1 all.1)

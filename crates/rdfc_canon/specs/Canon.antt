@@ -12,6 +12,8 @@ use Rattle.rdfc_ndegree.specs.Nodes.{Nodes}
 use Rattle.rdfc_ndegree.specs.Issuers.{canonical_id}
 use Rattle.rdfc_ndegree.specs.Datasets.{nodes_of}
 use Rattle.rdfc_ndegree.specs.Table.{numbers_below}
+use Rattle.rdfc_ndegree.specs.declared.limits.Limits.{Limits}
+use Rattle.rdfc_canon.specs.declared.canon.Canon.{Canon}
 pub use Rattle.rdfc_ndegree.specs.Run.{RunOutcome, IsRun, MeetsTie, WorkOver, DepthOver, WithinLimits, IsCanonicalIssuer}
 
 -- the blank nodes of a dataset, with SHA-256 as the hash algorithm. -- RDF Canonicalization, 4.3
@@ -28,18 +30,19 @@ canonical_ids n = map (λ k. codes "c14n" ++ decimal k) (numbers_below n)
 
 -- The labels name each blank node of the dataset once, and are c14n0, c14n1 and so on, in this order.
 pub record NameAll (q : List Statement) (labels : List TextLabel) : Type 0 where
-  pub each : (b : Blank) → StandsIn q b ↔ Contains (map (λ (l : TextLabel). l.blank) labels) (blank_text b)
+  pub each : (b : Blank)
+      → StandsIn q b ↔ Contains (map (λ (l : TextLabel). l.blank) labels) (blank_text b)
   pub once : AllDiffer (map (λ (l : TextLabel). l.blank) labels)
   pub numbered : map (λ (l : TextLabel). l.text) labels ≡ canonical_ids (length labels)
 
 -- The labels, the tie and the work are those of one run, neither its work nor its depth is over its limit,
 -- and the lines are those of the dataset under its labels, in code-point order.
-pub record AnswersRun (q : List Statement) (work_limit depth_limit : ℕ) (labels : List TextLabel) (lines : List (List ℕ)) (tie : Bool) (work : ℕ) : Type 0 where
+pub record AnswersRun (q : List Statement) (limits : Limits) (c : Canon) : Type 0 where
   pub run : RunOutcome Blank
   pub is_run : IsRun (nodes q) run
-  pub labels_are : labels ≡ canonical_labels q run.issuer
-  pub lines_are : lines ≡ canonical_lines (canonical_id (nodes q) run.issuer) q
-  pub tie_is : tie ≡ run.tie
-  pub work_is : work ≡ run.work
-  pub within_work : run.work ≤ work_limit
-  pub within_depth : run.depth ≤ depth_limit
+  pub labels_are : c.labels ≡ canonical_labels q run.issuer
+  pub lines_are : c.lines ≡ canonical_lines (canonical_id (nodes q) run.issuer) q
+  pub tie_is : c.tie ≡ run.tie
+  pub work_is : c.work ≡ run.work
+  pub within_work : run.work ≤ limits.work
+  pub within_depth : run.depth ≤ limits.depth

@@ -7,9 +7,9 @@ ghost use Rattle.rdfc_canon.specs.Canon.{nodes, canonical_labels, NameAll, Answe
 ghost use Rattle.rdfc_canon.specs.Internal.Form.{Canonicalised};
 
 use crate::numbering::run;
-use crate::relabel::{canonical_labels, canonical_lines};
+use crate::relabel::canonical_labels;
 use base_types::{Sequence, Text};
-use nquads::{TextLabels, TextQuads};
+use nquads::{TextLabels, TextQuads, canonical_lines};
 use rdfc_first::first_hashes;
 use rdfc_ndegree::{CanonFault, Limits, node_table};
 use std::alloc::Global;
@@ -37,7 +37,7 @@ pub struct Canon {
 pub fn canonicalise(alloc: Global, quads: &TextQuads, limits: &Limits) -> Result<Canon, CanonFault>
     // The answer is that of one run, within both limits.
     ensures ok { (q : List Statement) → quads.now ≡ map text_quad q
-        → IfOk result (λ c. AnswersRun q limits.now.work limits.now.depth c.labels c.lines c.tie c.work) }
+        → IfOk result (λ c. AnswersRun q limits.now c) }
     // Each blank node has one label, and no two have the same.
     ensures labels { (q : List Statement) → quads.now ≡ map text_quad q → IfOk result (λ c. NameAll q c.labels) }
     // A tie is reported exactly where a run meets one, and without one every run gives these labels.

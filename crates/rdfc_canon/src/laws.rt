@@ -1,8 +1,8 @@
 //! Laws of canonical labelling: each is the contract of a function that does nothing.
 
-ghost use Rattle.std.specs.Prelude.{◌≡◌, ◌↔◌, ℕ, List, map, true, false, Contains, IsPermutation};
+ghost use Rattle.std.specs.Prelude.{◌≡◌, ◌↔◌, ◌≤◌, ◌^◌, ℕ, List, length, map, true, false, All, Contains, IsPermutation};
 ghost use Rattle.base_types.specs.Sets.{AllDiffer};
-ghost use Rattle.nquads.specs.Terms.{Blank, IsDataset, Statement};
+ghost use Rattle.nquads.specs.Terms.{Blank, IsDataset, IsStatement, Statement};
 ghost use Rattle.nquads.specs.Renaming.{Same, StandsIn, image};
 ghost use Rattle.nquads.specs.Lines.{canonical_text};
 ghost use Rattle.rdfc_ndegree.specs.Issuers.{canonical_id};
@@ -41,7 +41,7 @@ pub fn names_do_not_matter()
     ensures depth { (digest : List ℕ → List ℕ) (q p : List Statement) (n : ℕ) → Same q p → IsDataset q → IsDataset p
         → DepthOver (nodes_of digest q) n ↔ DepthOver (nodes_of digest p) n }
     ensures labels { (digest : List ℕ → List ℕ) (q p : List Statement) (s : Same q p) (c : List Blank) → IsDataset q → IsDataset p
-        → IsCanonicalIssuer (nodes_of digest q) c → IsCanonicalIssuer (nodes_of digest p) (map (applied s.pairs) c) }
+        → IsCanonicalIssuer (nodes_of digest q) c → IsCanonicalIssuer (nodes_of digest p) (map (image s.pairs) c) }
     ensures text { (digest : List ℕ → List ℕ) (q p : List Statement) (c d : List Blank) → Same q p → IsDataset q → IsDataset p
         → IsCanonicalIssuer (nodes_of digest q) c → IsCanonicalIssuer (nodes_of digest p) d
         → canonical_text (canonical_id (nodes_of digest q) c) q ≡ canonical_text (canonical_id (nodes_of digest p) d) p }
@@ -60,4 +60,21 @@ pub fn order_does_not_matter()
     ensures text { (digest : List ℕ → List ℕ) (q p : List Statement) (c d : List Blank) → IsPermutation q p
         → IsCanonicalIssuer (nodes_of digest q) c → IsCanonicalIssuer (nodes_of digest p) d
         → canonical_text (canonical_id (nodes_of digest q) c) q ≡ canonical_text (canonical_id (nodes_of digest p) d) p }
+{}
+
+/// Datasets with one canonical text are the same up to the names of blank nodes, whatever was taken first where a run
+/// meets a tie. Without a tie it is exactly these that have one text. (A label's number has 64 bits.)
+pub fn one_text_is_of_one_dataset()
+    ensures same { (digest : List ℕ → List ℕ) (q p : List Statement) (r s : RunOutcome Blank)
+        → All IsStatement q → All IsStatement p → length r.issuer ≤ 2 ^ 64 → length s.issuer ≤ 2 ^ 64
+        → IsRun (nodes_of digest q) r → IsRun (nodes_of digest p) s
+        → canonical_text (canonical_id (nodes_of digest q) r.issuer) q
+        ≡ canonical_text (canonical_id (nodes_of digest p) s.issuer) p
+        → Same q p }
+    ensures exactly { (digest : List ℕ → List ℕ) (q p : List Statement) (r s : RunOutcome Blank)
+        → All IsStatement q → All IsStatement p → length r.issuer ≤ 2 ^ 64 → length s.issuer ≤ 2 ^ 64
+        → IsDataset q → IsDataset p → IsRun (nodes_of digest q) r → IsRun (nodes_of digest p) s
+        → r.tie ≡ false
+        → (canonical_text (canonical_id (nodes_of digest q) r.issuer) q
+        ≡ canonical_text (canonical_id (nodes_of digest p) s.issuer) p) ↔ Same q p }
 {}

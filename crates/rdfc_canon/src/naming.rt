@@ -29,7 +29,8 @@ pub fn issue_paths(canonical: &mut Canonical, paths: &[NodePath]) -> Result<(), 
 
 /// The same for the member of each group of one (RDF Dataset Canonicalization, 4.4.3, step 4).
 pub fn issue_alone(canonical: &mut Canonical, groups: &[NodeGroup]) -> Result<(), Memory>
-    ensures { OnOk result (canonical.new ≡ issue_numbers canonical.old (alone (map group_in groups.now))) }
+    ensures { OnOk result (canonical.new
+        ≡ issue_numbers canonical.old (alone (map group_in groups.now))) }
 {
     for group in groups {
         if group.members.len() == 1 {

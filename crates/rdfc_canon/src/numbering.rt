@@ -22,10 +22,16 @@ pub struct CanonicalNumbers {
 /// Numbers the nodes of a table.
 ///
 /// Errors: `TooMuchWork` and `TooDeep`, where a run is over the limit, which they carry; `Memory`.
-pub fn run(alloc: Global, table: &NodeTable, limits: &Limits) -> Result<CanonicalNumbers, CanonFault>
+pub fn run(
+    alloc: Global,
+    table: &NodeTable,
+    limits: &Limits,
+) -> Result<CanonicalNumbers, CanonFault>
     ensures closed { IsClosed table.now }
-    ensures ok { IfOk result (λ n. AnswersNumbers (table_nodes table.now) limits.now.work limits.now.depth n.canonical n.tie n.work) }
-    ensures fault { IfErr result (IsFaultOf limits.now (WorkOver (table_nodes table.now)) (DepthOver (table_nodes table.now))) }
+    ensures ok { IfOk result (λ n.
+        AnswersNumbers (table_nodes table.now) limits.now n.canonical n.tie n.work) }
+    ensures fault { IfErr result (IsFaultOf limits.now
+        (WorkOver (table_nodes table.now)) (DepthOver (table_nodes table.now))) }
 {
     let groups = first_groups(alloc, table)?;
     let mut canonical = Canonical::new(alloc, table.len())?;

@@ -1,6 +1,7 @@
 //! One group of nodes that have one first-degree hash (RDF Dataset Canonicalization, 4.4.3, step 5).
 ghost use Rattle.std.specs.Prelude.{◌≡◌, ◌<◌, ◌≤◌, ◌++◌, ◌∷◌, [], All, length, map, IfOk, IfErr};
 ghost use Rattle.rdfc_ndegree.specs.Internal.Evaluations.{IsFaultOf};
+ghost use Rattle.rdfc_ndegree.specs.Answers.{spending};
 ghost use Rattle.rdfc_ndegree.specs.Run.{lacking};
 ghost use Rattle.rdfc_ndegree.specs.Table.{IsClosed, table_nodes};
 ghost use Rattle.rdfc_canon.specs.Internal.Numbering.{AnswersHashes, AnswersRound, HashesDeep, HashesOver, neighbours_tie, next_has};
@@ -25,11 +26,15 @@ pub fn round(
     requires closed { IsClosed table.now }
     requires members { All (λ k. k < length table.now) members.now }
     ensures limits { meter.new.limits ≡ meter.old.limits }
-    ensures kept { meter.old.spent ≤ meter.old.limits.work → IfOk result (λ _. meter.new.spent ≤ meter.old.limits.work) }
-    ensures ok { IfOk result (λ tie. AnswersRound (table_nodes table.now) canonical.old members.now canonical.new tie meter.old.spent meter.new.spent meter.old.limits.depth) }
+    ensures kept { meter.old.spent ≤ meter.old.limits.work
+        → IfOk result (λ _. meter.new.spent ≤ meter.old.limits.work) }
+    ensures ok { IfOk result (λ tie.
+        AnswersRound (table_nodes table.now) canonical.old members.now canonical.new tie (spending meter.old meter.new 1)) }
     ensures fault { IfErr result (IsFaultOf meter.old.limits
-        (HashesOver (table_nodes table.now) canonical.old (lacking (table_nodes table.now) canonical.old members.now) meter.old.spent)
-        (HashesDeep (table_nodes table.now) canonical.old (lacking (table_nodes table.now) canonical.old members.now))) }
+        (HashesOver (table_nodes table.now) canonical.old
+        (lacking (table_nodes table.now) canonical.old members.now) meter.old.spent)
+        (HashesDeep (table_nodes table.now) canonical.old
+        (lacking (table_nodes table.now) canonical.old members.now))) }
 {
     let mut paths = hash_members(alloc, table, canonical, members, meter)?;
     paths.sort_unstable_by_key(
@@ -42,7 +47,8 @@ pub fn round(
     Ok(tie)
 }
 
-/// The n-degree hash of each member without canonical number, each with a new issuer that has named it alone.
+/// The n-degree hash of each member without canonical number, each with a new issuer that has named it
+/// alone.
 fn hash_members(
     alloc: Global,
     table: &NodeTable,
@@ -53,11 +59,16 @@ fn hash_members(
     requires closed { IsClosed table.now }
     requires members { All (λ k. k < length table.now) members.now }
     ensures limits { meter.new.limits ≡ meter.old.limits }
-    ensures kept { meter.old.spent ≤ meter.old.limits.work → IfOk result (λ _. meter.new.spent ≤ meter.old.limits.work) }
-    ensures ok { IfOk result (λ paths. AnswersHashes (table_nodes table.now) canonical.now (lacking (table_nodes table.now) canonical.now members.now) paths.items meter.old.spent meter.new.spent meter.old.limits.depth) }
+    ensures kept { meter.old.spent ≤ meter.old.limits.work
+        → IfOk result (λ _. meter.new.spent ≤ meter.old.limits.work) }
+    ensures ok { IfOk result (λ paths.
+        AnswersHashes (table_nodes table.now) canonical.now
+        (lacking (table_nodes table.now) canonical.now members.now) paths.items (spending meter.old meter.new 1)) }
     ensures fault { IfErr result (IsFaultOf meter.old.limits
-        (HashesOver (table_nodes table.now) canonical.now (lacking (table_nodes table.now) canonical.now members.now) meter.old.spent)
-        (HashesDeep (table_nodes table.now) canonical.now (lacking (table_nodes table.now) canonical.now members.now))) }
+        (HashesOver (table_nodes table.now) canonical.now
+        (lacking (table_nodes table.now) canonical.now members.now) meter.old.spent)
+        (HashesDeep (table_nodes table.now) canonical.now
+        (lacking (table_nodes table.now) canonical.now members.now))) }
 {
     let mut paths = Vec::new(alloc);
     for member in members {

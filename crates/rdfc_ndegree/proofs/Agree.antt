@@ -9,12 +9,12 @@ use Rattle.std.proofs.lemmas.List.Sorted.{IsPermutation-sym, Contains-permutatio
 use Rattle.base_types.specs.Order.{is_upto}
 use Rattle.base_types.specs.Sets.{SameElements}
 use Rattle.base_types.proofs.Lists.{Contains-here, Contains-nil, Contains-cons_cases}
-use Rattle.base_types.proofs.Orders.{is_upto-antisymmetric}
+use Rattle.base_types.proofs.Orders.{is_upto-antisymmetric, bytes_eq-true, bytes_eq-same}
 use Rattle.rdfc_ndegree.specs.Nodes.{Nodes}
 use Rattle.rdfc_ndegree.specs.Groups.{Group, related_groups}
 use Rattle.rdfc_ndegree.specs.NDegree.{Outcome, Trail, Choice, Calls, path_part, trail_more, Nested, Evaluates, AreArrangements, counts, meets_tie, IsChoice, InGroups, IsCall, IsNDegreeWithin, IsNDegree}
-use Rattle.rdfc_ndegree.proofs.Basics.{AllZip-from_left, AllZip-from_right, AllZip-weaker}
-use Rattle.rdfc_ndegree.proofs.AgreeBasics.{same_tests, bytes_eq-true, bytes_eq-same, begins, begins-starts_with, begins-refl, begins-append, one_side, begins-other, begins-later, list_any-false, list_any-none, once, count_by-one, AllZip-join, AllZip-count_by, Differ-from_AllDiffer, Paired, paired}
+use Rattle.rdfc_ndegree.proofs.Membership.{AllZip-from_left, AllZip-from_right, AllZip-weaker}
+use Rattle.rdfc_ndegree.proofs.PrefixesAndPairs.{same_tests, begins, begins-starts_with, begins-refl, begins-append, one_side, begins-other, begins-later, list_any-false, list_any-none, once, count_by-one, AllZip-join, AllZip-count_by, Differ-from_AllDiffer, Paired, paired}
 
 -- ---- outcomes that agree
 

@@ -11,12 +11,11 @@ use Rattle.std.proofs.lemmas.List.Folds.{list_any-append}
 use Rattle.std.proofs.lemmas.List.Sums.{sum_by_push, sum_by-cons}
 use Rattle.base_types.specs.Order.{is_upto}
 use Rattle.base_types.proofs.Lists.{Contains-here, Contains-there, Contains-cons_cases, Contains-nil}
-use Rattle.base_types.proofs.Orders.{is_upto-refl, is_upto-back, is_upto-transitive, bytes_eq-cmp, text_cmp, is_upto-cmp}
+use Rattle.base_types.proofs.Orders.{is_upto-refl, is_upto-back, is_upto-transitive, bytes_eq-cmp, text_cmp, is_upto-cmp, bytes_eq-true, bytes_eq-same}
 use Rattle.std.proofs.lemmas.Map.Lookups.{exact_bytes}
 use Rattle.std.specs.declared.cmp.Ordering.TheVariants.{Less, Equal, Greater}
 use Rattle.rdfc_ndegree.specs.NDegree.{Trail, counts, meets_tie, total_work, greatest_depth}
 use Rattle.rdfc_ndegree.specs.Internal.Evaluations.{all_ties, IsAmong, IsBestOf, IsPlaceOf}
-use Rattle.rdfc_ndegree.proofs.AgreeBasics.{bytes_eq-true, bytes_eq-same}
 
 apart : (path other least : List ℕ) → is_upto least other ≡ true → is_upto least path ≡ false → bytes_eq other path ≡ false
 apart path other least below not = go (bytes_eq other path) refl

@@ -14,7 +14,7 @@ use Rattle.rdfc_ndegree.specs.Nodes.{Nodes}
 use Rattle.rdfc_ndegree.specs.Internal.Nodes.{AreNodes}
 use Rattle.rdfc_ndegree.specs.NDegree.{AreArrangements}
 use Rattle.rdfc_ndegree.proofs.Branches.{drop_one, branches}
-use Rattle.rdfc_ndegree.proofs.Basics.{Contains-filter, Contains-from_filter, Contains-flat_map, Contains-from_flat_map, AllDiffer-append}
+use Rattle.rdfc_ndegree.proofs.Membership.{Contains-filter, Contains-from_filter, Contains-flat_map, Contains-from_flat_map, AllDiffer-append}
 
 module _ {B : Type 0} (same : B → B → Bool) (equal : (x y : B) → (same x y ≡ true) ↔ (x ≡ y)) where
   itself : (x : B) → same x x ≡ true

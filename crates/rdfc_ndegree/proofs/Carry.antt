@@ -6,14 +6,14 @@ use Rattle.std.proofs.lemmas.List.{map-append}
 use Rattle.std.proofs.lemmas.List.Elements.{All-map, All-weaker, recursion_from_All}
 use Rattle.std.proofs.lemmas.List.Sorted.{IsPermutation-sym, IsPermutation-trans, IsPermutation-map, All-permutation}
 use Rattle.base_types.specs.Order.{sorted_set, is_upto}
-use Rattle.base_types.proofs.Lists.{Contains-map, Contains-from_map, AllByRecursion-contains}
+use Rattle.base_types.proofs.Lists.{Contains-map, Contains-from_map, AllByRecursion-contains, map-map}
 use Rattle.base_types.proofs.Rising.{rising-free}
 use Rattle.nquads.proofs.ReadingElements.{AllDiffer-map}
 use Rattle.rdfc_ndegree.specs.Nodes.{Occurrence, Nodes}
 use Rattle.rdfc_ndegree.specs.Issuers.{has, number, canonical_id, temporary_id, issue}
 use Rattle.rdfc_ndegree.specs.Groups.{position_text, identifier_or_hash, related_hash, NodeHash, Group, group_of, groups_by_hash, with_related_hash, related_groups}
 use Rattle.rdfc_ndegree.specs.NDegree.{Outcome, Trail, Choice, Calls, issue_temporary, identifier, issuer_copy, first_path, recursion_list, path_part, Nested, Evaluates, AreArrangements, counts, meets_tie, total_work, greatest_depth, choice_of, IsChoice, outcome_end, InGroups, IsCall, IsNDegreeWithin, IsNDegree}
-use Rattle.rdfc_ndegree.proofs.CarryBasics.{SameElements-permutation, IsPermutation-filter, Each-permutation, Each-append, Each-filter, Each-map, Each-from_contains, map-map, map-agree, list_any-map, list_any-map_each, filter-map_each, sum_by-map, pull_back, map-injective}
+use Rattle.rdfc_ndegree.proofs.Permutations.{SameElements-permutation, IsPermutation-filter, Each-permutation, Each-append, Each-filter, Each-map, Each-from_contains, map-agree, list_any-map, list_any-map_each, filter-map_each, sum_by-map, pull_back, map-injective}
 
 -- ---- what is carried
 
@@ -355,7 +355,6 @@ module _ {A B : Type 0} (f : A → B) (Dom : A → Type 0) (v : Nodes A) (w : No
   -- and its issuer is within Dom
   pub IsNDegree-inside : (c : List A) (n : A) (i : List A) (o : Outcome A) → AllByRecursion Dom c → AllByRecursion Dom i → Dom n → IsNDegree v c n i o → AllByRecursion Dom o.issuer
   IsNDegree-inside c n i o hc hi dn d = (call_arrives c n i o hc hi dn d).in_domain
-
   -- ---- what a call answers
 
 -- ---- the way back, along a map that undoes the first

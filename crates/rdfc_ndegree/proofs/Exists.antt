@@ -16,7 +16,7 @@ use Rattle.rdfc_ndegree.specs.NDegree.{Outcome, Trail, Choice, Calls, issue_temp
 use Rattle.rdfc_ndegree.specs.Run.{with_first_hash, first_groups, alone, lacking, take_issuers, InHashOrder, RunOutcome, run_end, run_more, Rounds, IsRun}
 use Rattle.rdfc_ndegree.proofs.Branches.{branches}
 pub use Rattle.rdfc_ndegree.proofs.Lack.{lack, Grows, AreListed}
-use Rattle.rdfc_ndegree.proofs.Basics.{Contains-from_filter, AllZip-from_left, has-issue, grouped-member}
+use Rattle.rdfc_ndegree.proofs.Membership.{Contains-from_filter, AllZip-from_left, has-issue, grouped-member}
 use Rattle.rdfc_ndegree.proofs.Branching.{branches-are, arrangements-some, arrangement-member}
 use Rattle.rdfc_ndegree.proofs.Grow.{CallsGrow, Grows-named, Grows-named_all, IsChoice-grows_if, IsNDegreeWithin-grows, IsNDegree-grows}
 

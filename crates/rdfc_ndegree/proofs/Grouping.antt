@@ -1,5 +1,5 @@
 -- Nodes grouped by hash: one more at the end, a stable sort, and where the members come from.
-use Rattle.std.proofs.Common.{◌≡◌, ℕ, zero, suc, ◌+◌, ◌<◌, List, [], ◌∷◌, ◌++◌, map, filter, length, get_or, take, take-suc, refl, sym, ap, ◌∙◌, subst, inl, inr, ⊎_elim, add-one, arith, Bool, true, false, cond, not, ◌&&◌}
+use Rattle.std.proofs.Common.{◌≡◌, ℕ, suc, ◌+◌, ◌<◌, List, [], ◌∷◌, ◌++◌, map, filter, length, get_or, take, take-suc, refl, sym, ap, ◌∙◌, subst, inl, inr, ⊎_elim, add-one, arith, Bool, true, false, cond, not, ◌&&◌}
 use Rattle.std.specs.Prelude.{◌⊎◌, Contains}
 use Rattle.std.specs.Str.{bytes_eq}
 use Rattle.std.specs.List.{AllByRecursion}
@@ -7,37 +7,22 @@ use Rattle.std.specs.List.Sorted.{IsPermutation, IsStrictlySortedBy, IsSortedByK
 use Rattle.std.specs.Cmp.Lexicographic.{nat_list_cmp_total, nat_list_eq_equiv}
 use Rattle.std.specs.Ordering.{is_le, is_lt, is_eq, ordering_reverse}
 use Rattle.std.specs.declared.cmp.Ordering.TheVariants.{Less}
-use Rattle.std.proofs.lemmas.Map.Lookups.{exact_bytes}
-use Rattle.std.proofs.lemmas.List.{map-append, get_or-take, length-take-le}
+use Rattle.std.proofs.lemmas.List.{map-append, get_or-take, length-take-le, get_or_default}
 use Rattle.std.proofs.lemmas.List.Sorted.{IsPermutation-to_front, IsPermutation-sym, IsPermutation-map, Contains-permutation, sorted_far, ranks_by}
 use Rattle.base_types.specs.Order.{is_upto, put_once, sorted_set}
 use Rattle.base_types.specs.Sets.{SameElements}
 use Rattle.base_types.proofs.Lists.{Contains-here, Contains-there, Contains-cons_cases, Contains-nil, AllByRecursion-contains}
-use Rattle.base_types.proofs.Orders.{text_cmp, is_upto-cmp, bytes_eq-cmp, by_cmp}
+use Rattle.base_types.proofs.Orders.{text_cmp, is_upto-cmp, bytes_eq-cmp, by_cmp, less_upto, upto_if, bytes_eq-true, bytes_eq-same}
 use Rattle.base_types.proofs.Rising.{rising-rises, rising-same, rising-free}
 use Rattle.rdfc_ndegree.specs.Groups.{NodeHash, Group, group_of, groups_by_hash}
 use Rattle.rdfc_ndegree.specs.Internal.Grouping.{group_of_one, add_to_groups, node_hash}
 use Rattle.rdfc_ndegree.specs.declared.related.HashedNode.{HashedNode}
-use Rattle.rdfc_ndegree.proofs.AgreeBasics.{bytes_eq-true, bytes_eq-same}
-use Rattle.rdfc_ndegree.proofs.CarryBasics.{Each-from_contains, filter-map_each}
+use Rattle.rdfc_ndegree.proofs.Permutations.{Each-from_contains, filter-map_each}
 
 -- ---- comparisons of hashes
 
 below-differs : (t u : List ℕ) → text_cmp t u ≡ Less → bytes_eq t u ≡ false
 below-differs t u less = bytes_eq-cmp t u ∙ ap is_eq less
-
-pub less-upto : (t u v : List ℕ) → text_cmp t u ≡ Less → is_upto u v ≡ true → text_cmp t v ≡ Less
-less-upto t u v less upto =
-    let a = is_upto-cmp u v in
-    by_cmp (text_cmp t v ≡ Less) u v
-    (λ f. nat_list_cmp_total.trans t u v less f)
-    (λ f. subst (λ w. text_cmp t w ≡ Less) (exact_bytes u v f) less)
-    (λ f. let b = ap is_le f in absurd (cc))
-
-pub upto_if : (t u : List ℕ) → is_lt (text_cmp u t) ≡ false → is_upto t u ≡ true
-upto_if t u e =
-    let turned = nat_list_cmp_total.antisymm t u in let above = is_upto-cmp t u in
-    by_cmp (is_upto t u ≡ true) u t (λ f. let a = ap is_lt f in absurd (cc)) (λ f. let a = ap ordering_reverse f in let b = ap is_le (turned ∙ a) in cc) (λ f. let a = ap ordering_reverse f in let b = ap is_le (turned ∙ a) in cc)
 
 -- what ties by the order of hashes
 ties-same : (t u : List ℕ) → (not (is_lt (text_cmp t u)) && not (is_lt (text_cmp u t))) ≡ bytes_eq u t
@@ -113,7 +98,7 @@ module _ {B : Type 0} where
           let apart : add_to_groups (map (group_of done) (u ∷ [])) h ≡ group_of done u ∷ group_of_one h ∷ [] = rw e refl in
           apart ∙ (λ i. sym (group-other done h u back) i ∷ sym (group-first done h none) i ∷ []) ∙ ap (map (group_of (done ++ h ∷ []))) (sym after)
   added-each done h (u ∷ w ∷ us) up all fresh =
-      let less = less-upto u w h.hash up.0.0 all.1.0 in
+      let less = less_upto u w h.hash up.0.0 all.1.0 in
       let differ = below-differs u h.hash less in
       let back : bytes_eq h.hash u ≡ false = nat_list_eq_equiv.symm h.hash u ∙ differ in
       let later : Contains (w ∷ us) h.hash ⊎ (with_hash h.hash done ≡ []) = ⊎_elim (λ c. ⊎_elim (λ s. let t = bytes_eq-same u u refl in let r : bytes_eq u h.hash ≡ true = subst (λ v. bytes_eq u v ≡ true) s t in absurd (cc)) (λ d. inl d) (Contains-cons_cases u (w ∷ us) h.hash c)) (λ n. inr n) fresh in
@@ -195,14 +180,9 @@ all-kept : (P : NodeHash ℕ → Type 0) (xs : List HashedNode) → AllByRecursi
 all-kept P [] all = tt
 all-kept P (x ∷ xs) all = (all.0, all-kept P xs all.1)
 
-get_or-any : {X : Type 0} (xs : List X) (k : ℕ) (d e : X) → k < length xs → get_or xs k d ≡ get_or xs k e
-get_or-any [] k d e in' = absurd (omega arith)
-get_or-any (x ∷ xs) zero d e in' = refl
-get_or-any (x ∷ xs) (suc k) d e in' = get_or-any xs k d e (omega arith)
-
 pub grouped-next : (ys : List HashedNode) (k : ℕ) (h d : HashedNode) → k < length ys → h ≡ get_or ys k d → IsSortedByKey (λ (x : HashedNode). x.hash) text_cmp ys → add_to_groups (groups_by_hash (map node_hash (take k ys))) (node_hash h) ≡ groups_by_hash (map node_hash (take (k + 1) ys))
 grouped-next ys k h d in' at up =
-    let is : h ≡ get_or ys k h = at ∙ get_or-any ys k d h in' in
+    let is : h ≡ get_or ys k h = at ∙ get_or_default ys k d h in' in
     let len : length (take k ys) ≡ k = length-take-le k ys (omega arith) in
     let far : (i : ℕ) → i < length (take k ys) → is_upto (get_or (take k ys) i h).hash h.hash ≡ true = λ i below.
     let low : i < k = omega (arith, len) in

@@ -7,7 +7,7 @@ use Rattle.rdfc_ndegree.specs.Issuers.{has, issue}
 use Rattle.rdfc_ndegree.specs.Groups.{Group, related_groups}
 use Rattle.rdfc_ndegree.specs.NDegree.{Outcome, Trail, Choice, Calls, issue_temporary, issuer_copy, first_path, recursion_list, path_part, Nested, Evaluates, IsChoice, InGroups, IsCall, IsNDegreeWithin, IsNDegree}
 pub use Rattle.rdfc_ndegree.proofs.Lack.{Grows}
-use Rattle.rdfc_ndegree.proofs.Basics.{AllZip-from_right, AllZip-weaker, has-append_left}
+use Rattle.rdfc_ndegree.proofs.Membership.{AllZip-from_right, AllZip-weaker, has-append_left}
 
 -- each call over `calls` gives an issuer that has grown; what `fewer` may give `more` may give
 abbrev pub CallsGrow : {B : Type 0} → Nodes B → Calls B → Type 0

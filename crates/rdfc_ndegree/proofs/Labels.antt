@@ -18,7 +18,7 @@ use Rattle.rdfc_ndegree.specs.Groups.{NodeHash, Group, group_of, related_groups}
 use Rattle.rdfc_ndegree.specs.NDegree.{Outcome, Trail, Choice, Calls, issue_temporary, issuer_copy, first_path, recursion_list, path_part, Nested, Evaluates, IsChoice, InGroups, IsNDegreeWithin, IsNDegree}
 use Rattle.rdfc_ndegree.specs.Run.{with_first_hash, first_groups, if_alone, alone, lacking, take_issuer, take_issuers, RunOutcome, Rounds, IsRun}
 use Rattle.rdfc_ndegree.proofs.Lack.{Grows, AreListed}
-use Rattle.rdfc_ndegree.proofs.Basics.{Contains-filter, AllDiffer-append, AllZip-from_right, AllZip-from_left, same-itself, Contains-from_has, has-from_contains, has-issue, Contains-issue_cases, group_of-member, member-group_of, grouped-has}
+use Rattle.rdfc_ndegree.proofs.Membership.{Contains-filter, AllDiffer-append, AllZip-from_right, AllZip-from_left, same-itself, Contains-from_has, has-from_contains, has-issue, Contains-issue_cases, group_of-member, member-group_of, grouped-has}
 use Rattle.rdfc_ndegree.proofs.Grow.{Grows-issue, IsNDegree-grows}
 use Rattle.rdfc_ndegree.proofs.Exists.{newly_named-member, groups-listed, first_groups-listed, lacking-listed}
 

@@ -15,7 +15,7 @@ use Rattle.rdfc_ndegree.specs.Internal.Nodes.{AreNodes}
 use Rattle.rdfc_ndegree.specs.declared.table.Position.{Position}
 use Rattle.rdfc_ndegree.specs.declared.table.Position.TheVariants as position
 use Rattle.rdfc_ndegree.specs.Datasets.{occurrence, occurrences_at, occurrences_in, related_in, nodes_of}
-use Rattle.rdfc_ndegree.proofs.Basics.{Contains-from_filter, Contains-from_flat_map}
+use Rattle.rdfc_ndegree.proofs.Membership.{Contains-from_filter, Contains-from_flat_map}
 use Rattle.rdfc_ndegree.proofs.Branching.{each_once-from, each_once-has, each_once-differ}
 
 pub same_blank-equal : (x y : Blank) → (same_blank x y ≡ true) ↔ (x ≡ y)

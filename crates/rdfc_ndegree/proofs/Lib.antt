@@ -1,4 +1,4 @@
-pub mod Basics
+pub mod Membership
 pub mod Branches
 pub mod Branching
 pub mod Lack
@@ -8,11 +8,11 @@ pub mod Exists
 pub mod Labels
 pub mod Lawful
 pub mod Examples
-pub mod AgreeBasics
+pub mod PrefixesAndPairs
 pub mod Agree
 pub mod RunAgree
 pub mod Ties
-pub mod CarryBasics
+pub mod Permutations
 pub mod Carry
 pub mod RunCarry
 pub mod TableCarry
@@ -26,11 +26,11 @@ pub mod Places
 pub mod Walks
 pub mod Grouping
 pub mod Adding
-pub mod Stepping
+pub mod NextSequence
 pub mod Hashes
 pub mod Pivots
 pub mod Bests
-pub mod Steps
+pub mod ProgressLaws
 pub mod Rows
 pub mod Loops
 pub mod RequestLemmas

@@ -4,7 +4,7 @@ use Rattle.std.specs.List.{list_any, starts_with}
 use Rattle.std.proofs.lemmas.List.{drop_more}
 use Rattle.std.proofs.lemmas.List.Elements.{All-drop, Contains-append_right}
 use Rattle.std.proofs.lemmas.List.Sorted.{All-permutation}
-use Rattle.base_types.proofs.Lists.{Contains-here}
+use Rattle.base_types.proofs.Lists.{Contains-here, drop-next}
 use Rattle.digest_mac.specs.Digests.{sha256_digits}
 use Rattle.rdfc_ndegree.specs.declared.table.NodeRow.{NodeRow}
 use Rattle.rdfc_ndegree.specs.declared.limits.Meter.{Meter}
@@ -23,25 +23,24 @@ use Rattle.rdfc_ndegree.proofs.Progress.{spending_of, Walking, Choosing, Groupin
 use Rattle.rdfc_ndegree.proofs.Tables.{table-digest}
 use Rattle.rdfc_ndegree.proofs.Bests.{Takes}
 use Rattle.rdfc_ndegree.proofs.Rows.{unnamed, unnamed-choice, unnamed-call, unnamed-walk, groups-rows, rows-listed, All-named_all, All-newly_named}
-use Rattle.rdfc_ndegree.proofs.Steps.{walking-start, walking-turn, walking-end, walking-fault, walking-blocked, grouping-turn, grouping-end, grouping-fault, choosing-turn, choosing-end, choosing-fault, choosing-full}
+use Rattle.rdfc_ndegree.proofs.ProgressLaws.{walking-start, walking-turn, walking-end, walking-fault, walking-blocked, grouping-turn, grouping-end, grouping-fault, choosing-turn, choosing-end, choosing-fault, choosing-full}
 
--- the limits are as before, and what was within the limit of work still is
+-- the limits are as before, the count has not fallen, and what was within the limit of work still is
 pub record Counting (before now : Meter) : Type 0 where
   pub limits : now.limits ≡ before.limits
+  pub rises : before.spent ≤ now.spent
   pub kept : before.spent ≤ before.limits.work → now.spent ≤ before.limits.work
 
 pub counting-start : (before : Meter) → Counting before before
-counting-start before = record { limits = refl; kept = λ k. k }
+counting-start before = record { limits = refl; rises = omega arith; kept = λ k. k }
 
 -- one more call
-pub counting-turn : {before meter next : Meter} → Counting before meter → next.limits ≡ meter.limits → (meter.spent ≤ meter.limits.work → next.spent ≤ meter.limits.work) → Counting before next
-counting-turn {before = before} {meter = meter} {next = next} k same kept = record {
+pub counting-turn : {before meter next : Meter} → Counting before meter → next.limits ≡ meter.limits → meter.spent ≤ next.spent → (meter.spent ≤ meter.limits.work → next.spent ≤ meter.limits.work) → Counting before next
+counting-turn {before = before} {meter = meter} {next = next} k same up kept = record {
   limits = same ∙ k.limits;
+  rises = let r = k.rises in omega arith;
   kept = λ h. subst (λ (l : Limits). next.spent ≤ l.work) k.limits (kept (subst (λ (l : Limits). meter.spent ≤ l.work) (sym k.limits) (k.kept h)));
 }
-
-pub next_item : {X : Type 0} (xs : List X) (k : ℕ) (x : X) → k < length xs → x ≡ get_or xs k x → drop k xs ≡ x ∷ drop (k + 1) xs
-next_item xs k x lt is = drop_more xs k x lt ∙ ap (λ y. y ∷ drop (k + 1) xs) (sym is)
 
 -- a fault handed on
 pub handed_on : {A E : Type 0} (r : Result A E) (e : E) (P : E → Type 0) → IsErrAnd r (λ x. x ≡ e) → P e → IfErr r P
@@ -81,13 +80,15 @@ module _ (rows : List NodeRow) (laws : AreNodes (table_nodes rows)) (c : List �
       → InGroupLoop rows c n i (text ++ (g.hash ++ path)) issuer (tie || tied) (drop (k + 1) gs) before next depth
   group-turn gs k g {n = n} {i = i} {text = text} {now = now} {tie = tie} {before = before} {meter = meter} {depth = depth} {path = path} {issuer = issuer} {tied = tied} next lt is w a inside same kept =
       let here : Grouping (table_nodes rows) c n i text now tie (group_in g ∷ map group_in (drop (k + 1) gs)) before.spent meter.spent depth before.limits.depth =
-      subst (λ r. Grouping (table_nodes rows) c n i text now tie (map group_in r) before.spent meter.spent depth before.limits.depth) (next_item gs k g lt is) w.grouping in
+      subst (λ r. Grouping (table_nodes rows) c n i text now tie (map group_in r) before.spent meter.spent depth before.limits.depth) (drop-next gs k g lt is) w.grouping in
       let b : AnswersChoice (table_nodes rows) c now g.members (choice_answer path issuer tied) (spending_of meter.spent next.spent depth before.limits.depth) =
       subst (λ (l : Limits). AnswersChoice (table_nodes rows) c now g.members (choice_answer path issuer tied) (spending_of meter.spent next.spent depth l.depth)) w.counting.limits a in
       let f : unnamed rows c issuer ≤ unnamed rows c now = unnamed-choice rows a in
       let e = w.fewer in
+      let sum = a.spent in
+      let up : meter.spent ≤ next.spent = omega arith in
       record {
-        counting = counting-turn w.counting same kept;
+        counting = counting-turn w.counting same up kept;
         inside = inside;
         fewer = omega arith;
         grouping = grouping-turn (table_nodes rows) c here b;
@@ -99,7 +100,7 @@ module _ (rows : List NodeRow) (laws : AreNodes (table_nodes rows)) (c : List �
       → IsFaultOf before.limits (CallOver (table_nodes rows) c n i before.spent) (CallDeep (table_nodes rows) c n i depth) e
   group-fault gs k g {n = n} {i = i} {text = text} {now = now} {tie = tie} {before = before} {meter = meter} {depth = depth} lt is all w e h =
       let here : Grouping (table_nodes rows) c n i text now tie (group_in g ∷ map group_in (drop (k + 1) gs)) before.spent meter.spent depth before.limits.depth =
-      subst (λ r. Grouping (table_nodes rows) c n i text now tie (map group_in r) before.spent meter.spent depth before.limits.depth) (next_item gs k g lt is) w.grouping in
+      subst (λ r. Grouping (table_nodes rows) c n i text now tie (map group_in r) before.spent meter.spent depth before.limits.depth) (drop-next gs k g lt is) w.grouping in
       grouping-fault laws c here (groups-rows rows (drop (k + 1) gs) (All-drop (λ (x : NodeGroup). All (λ m. m < length rows) x.members) (k + 1) gs all)) w.counting.limits e h
 
   pub group-end : (gs : List NodeGroup) (k : ℕ) {n : ℕ} {i text now : List ℕ} {tie : Bool} {before meter : Meter} {depth : ℕ} (hash : List ℕ) → length gs ≤ k
@@ -135,9 +136,12 @@ module _ (rows : List NodeRow) (laws : AreNodes (table_nodes rows)) (c : List �
       subst (λ (l : Limits). AnswersTrail (table_nodes rows) c i p (trail_answer its_path its_issuer its_ties) (spending_of counted.spent next.spent depth l.depth)) (same ∙ w.counting.limits) a in
       let d : AnswersTrail (table_nodes rows) c i p (trail_answer its_path its_issuer its_ties) (spending_of (meter.spent + 1) next.spent depth before.limits.depth) =
       subst (λ s. AnswersTrail (table_nodes rows) c i p (trail_answer its_path its_issuer its_ties) (spending_of s next.spent depth before.limits.depth)) one b in
-      let f : Counting before counted = counting-turn w.counting same (λ _. omega arith) in
+      let more : meter.spent ≤ counted.spent = omega arith in
+      let f : Counting before counted = counting-turn w.counting same more (λ _. omega arith) in
+      let sum = a.spent in
+      let up : counted.spent ≤ next.spent = omega arith in
       record {
-        counting = counting-turn f same' kept;
+        counting = counting-turn f same' up kept;
         inside = inside;
         choosing = choosing-turn (table_nodes rows) c path' issuer' sharing' ties' here d takes;
       }
@@ -207,8 +211,10 @@ module _ (rows : List NodeRow) (laws : AreNodes (table_nodes rows)) (c : List �
       subst (λ (l : Limits). AnswersCall (table_nodes rows) c (get_or ms k 0) now (answer hash issuer tie) (spending_of meter.spent next.spent (depth + 1) l.depth)) w.counting.limits a in
       let f : unnamed rows c issuer ≤ unnamed rows c now = unnamed-call rows a in
       let e = w.fewer in
+      let sum = a.spent in
+      let up : meter.spent ≤ next.spent = omega arith in
       record {
-        counting = counting-turn w.counting same kept;
+        counting = counting-turn w.counting same up kept;
         inside = inside;
         fewer = omega arith;
         walking = walking-turn (table_nodes rows) c here b;

@@ -6,7 +6,7 @@ use Rattle.std.proofs.lemmas.Bool.Decides.{same_from_decides}
 use Rattle.std.proofs.lemmas.List.{map-append}
 use Rattle.std.proofs.lemmas.List.Sorted.{IsPermutation-sym, IsPermutation-map, Contains-permutation}
 use Rattle.base_types.specs.Order.{sorted_set}
-use Rattle.base_types.proofs.Lists.{Contains-here, Contains-there, Contains-cons_cases, Contains-nil, Contains-map, Contains-from_map, AllByRecursion-contains}
+use Rattle.base_types.proofs.Lists.{Contains-here, Contains-there, Contains-cons_cases, Contains-nil, Contains-map, Contains-from_map, AllByRecursion-contains, map-map}
 use Rattle.base_types.proofs.Orders.{in_order-free}
 use Rattle.nquads.specs.Terms.{Blank, Term, iri, literal, blank, Statement, IsDataset}
 use Rattle.nquads.specs.Renaming.{same_blank, blanks_of_term, blanks_of_graph, blanks_of, StandsIn, rename_term, rename, IsOneToOne, image, Same}
@@ -23,7 +23,7 @@ use Rattle.rdfc_ndegree.specs.declared.table.Position.TheVariants as position
 use Rattle.rdfc_ndegree.specs.Issuers.{number, canonical_id}
 use Rattle.rdfc_ndegree.specs.Run.{RunOutcome, IsRun, MeetsTie, WorkOver, DepthOver, WithinLimits, IsCanonicalIssuer}
 use Rattle.rdfc_ndegree.specs.Datasets.{occurrence, occurrences_at, occurrences_in, related_in, nodes_of}
-use Rattle.rdfc_ndegree.proofs.CarryBasics.{IsPermutation-filter, IsPermutation-flat_map, IsPermutation-from_elements, SameElements-permutation, Each-left, Each-right, Each-filter, Each-from_contains, Each-weaker, map-map, map-agree, filter-map, list_any-map}
+use Rattle.rdfc_ndegree.proofs.Permutations.{IsPermutation-filter, IsPermutation-flat_map, IsPermutation-from_elements, SameElements-permutation, Each-left, Each-right, Each-filter, Each-from_contains, Each-weaker, map-agree, filter-map, list_any-map}
 use Rattle.rdfc_ndegree.proofs.Lawful.{same_blank-equal, blanks-all, AllDiffer-blanks, related_in-stands}
 use Rattle.rdfc_ndegree.proofs.Carry.{carried, Carries, number-carried, canonical_id-carried}
 use Rattle.rdfc_ndegree.proofs.RunCarry.{result_f, IsRun-carried, MeetsTie-carried, WorkOver-carried, DepthOver-carried, WithinLimits-carried, HasLabels-carried, HasLabels-inside}
@@ -285,8 +285,8 @@ module _ (digest : List ℕ → List ℕ) (q r : List Statement) (e : Same q r) 
   pub Same-first_degree_hash : (n : Blank) → StandsIn q n → first_degree_hash digest r (image e.pairs n) ≡ first_degree_hash digest q n
   Same-first_degree_hash = first_degree_hash-renamed digest (image e.pairs) q r (one_to_one-from_Same q r e) (order-from_Same q r e i j)
 
-  pub Same-IsRun : (x : RunOutcome Blank) → IsRun (nodes_of digest q) x → IsRun (nodes_of digest r) (result_f (applied e.pairs) x)
-  Same-IsRun = IsRun-renamed digest (applied e.pairs) q r (one_to_one-from_Same q r e) (order-from_Same q r e i j)
+  pub Same-IsRun : (x : RunOutcome Blank) → IsRun (nodes_of digest q) x → IsRun (nodes_of digest r) (result_f (image e.pairs) x)
+  Same-IsRun = IsRun-renamed digest (image e.pairs) q r (one_to_one-from_Same q r e) (order-from_Same q r e i j)
 
   pub Same-MeetsTie : MeetsTie (nodes_of digest q) ↔ MeetsTie (nodes_of digest r)
   Same-MeetsTie = MeetsTie-renamed digest (image e.pairs) q r (one_to_one-from_Same q r e) (order-from_Same q r e i j)
@@ -300,16 +300,16 @@ module _ (digest : List ℕ → List ℕ) (q r : List Statement) (e : Same q r) 
   pub Same-WithinLimits : (work depth : ℕ) → WithinLimits (nodes_of digest q) work depth ↔ WithinLimits (nodes_of digest r) work depth
   Same-WithinLimits = WithinLimits-renamed digest (image e.pairs) q r (one_to_one-from_Same q r e) (order-from_Same q r e i j)
 
-  pub Same-HasLabels : (c : List Blank) → IsCanonicalIssuer (nodes_of digest q) c → IsCanonicalIssuer (nodes_of digest r) (map (applied e.pairs) c)
-  Same-HasLabels = HasLabels-renamed digest (applied e.pairs) q r (one_to_one-from_Same q r e) (order-from_Same q r e i j)
+  pub Same-HasLabels : (c : List Blank) → IsCanonicalIssuer (nodes_of digest q) c → IsCanonicalIssuer (nodes_of digest r) (map (image e.pairs) c)
+  Same-HasLabels = HasLabels-renamed digest (image e.pairs) q r (one_to_one-from_Same q r e) (order-from_Same q r e i j)
 
   pub Same-labels_inside : (c : List Blank) → IsCanonicalIssuer (nodes_of digest q) c → AllByRecursion (StandsIn q) c
-  Same-labels_inside = labels-StandsIn digest (applied e.pairs) q r (one_to_one-from_Same q r e) (order-from_Same q r e i j)
+  Same-labels_inside = labels-StandsIn digest (image e.pairs) q r (one_to_one-from_Same q r e) (order-from_Same q r e i j)
 
   -- a blank node keeps its number
-  pub Same-number : (c : List Blank) (b : Blank) → IsCanonicalIssuer (nodes_of digest q) c → Contains (blanks q) b → number (nodes_of digest r) (map (applied e.pairs) c) (applied e.pairs b) ≡ number (nodes_of digest q) c b
-  Same-number c b h m = number-renamed digest (applied e.pairs) q r (one_to_one-from_Same q r e) (order-from_Same q r e i j) c b (Same-labels_inside c h) ((blanks-all q b).1 m)
+  pub Same-number : (c : List Blank) (b : Blank) → IsCanonicalIssuer (nodes_of digest q) c → Contains (blanks q) b → number (nodes_of digest r) (map (image e.pairs) c) (image e.pairs b) ≡ number (nodes_of digest q) c b
+  Same-number c b h m = number-renamed digest (image e.pairs) q r (one_to_one-from_Same q r e) (order-from_Same q r e i j) c b (Same-labels_inside c h) ((blanks-all q b).1 m)
 
   -- and the canonical text is the same
-  pub Same-canonical_text : (c : List Blank) → IsCanonicalIssuer (nodes_of digest q) c → canonical_text (canonical_id (nodes_of digest r) (map (applied e.pairs) c)) r ≡ canonical_text (canonical_id (nodes_of digest q) c) q
-  Same-canonical_text c h = canonical_text-renamed digest (applied e.pairs) q r (one_to_one-from_Same q r e) (order-from_Same q r e i j) c (Same-labels_inside c h)
+  pub Same-canonical_text : (c : List Blank) → IsCanonicalIssuer (nodes_of digest q) c → canonical_text (canonical_id (nodes_of digest r) (map (image e.pairs) c)) r ≡ canonical_text (canonical_id (nodes_of digest q) c) q
+  Same-canonical_text c h = canonical_text-renamed digest (image e.pairs) q r (one_to_one-from_Same q r e) (order-from_Same q r e i j) c (Same-labels_inside c h)

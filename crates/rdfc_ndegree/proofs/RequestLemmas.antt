@@ -6,7 +6,7 @@ use Rattle.std.proofs.lemmas.Option.{get_or_from_slice_get, slice_get-get_or}
 use Rattle.std.proofs.lemmas.List.{map-append}
 use Rattle.std.proofs.lemmas.List.Elements.{All-contains, Contains-append_left, Contains-append_right, Contains-append_cases}
 use Rattle.base_types.specs.Sets.{AllDiffer}
-use Rattle.base_types.proofs.Lists.{Contains-nil, Contains-here, Contains-there, Contains-cons_cases}
+use Rattle.base_types.proofs.Lists.{Contains-nil, Contains-here, Contains-there, Contains-cons_cases, AllDiffer-images}
 use Rattle.digest_mac.specs.Digests.{sha256_digits}
 use Rattle.nquads.specs.Terms.{Blank, Statement}
 use Rattle.nquads.specs.Spelling.{blank_text, text_quad}
@@ -25,11 +25,11 @@ use Rattle.rdfc_ndegree.specs.NumberIssuers.{issue_numbers}
 use Rattle.rdfc_ndegree.specs.Internal.Building.{name_at}
 use Rattle.rdfc_ndegree.specs.declared.table.NodeRow.{NodeRow}
 use Rattle.rdfc_ndegree.proofs.Carry.{outcome_f, IsNDegree-carried, IsNDegree-inside}
-use Rattle.rdfc_ndegree.proofs.CarryBasics.{Each-from_contains}
+use Rattle.rdfc_ndegree.proofs.Permutations.{Each-from_contains}
 use Rattle.rdfc_ndegree.proofs.TableCarry.{at, no_blank, table-carries, table-length}
 use Rattle.rdfc_ndegree.proofs.BuildLemmas.{number-get, number-below}
 use Rattle.rdfc_ndegree.proofs.Tables.{absent-any}
-use Rattle.rdfc_ndegree.proofs.TableLemmas.{differ-from_map, numbered_blank, got_map, zip-find, length-names}
+use Rattle.rdfc_ndegree.proofs.TableLemmas.{numbered_blank, got_map, zip-find, length-names}
 use Rattle.rdfc_ndegree.proofs.Progress.{spending_of}
 
 -- ---- the issuer that has named a list without repeats
@@ -162,7 +162,7 @@ carried_call q n c i firsts rows canonical node number issuer canonical_texts is
     let each_i : AllByRecursion (Contains bs) i = Each-from_contains (Contains bs) i (λ b m. there b (Contains-append_right c (i ++ n ∷ []) b (Contains-append_left i (n ∷ []) b m))) in
     let c_numbers : List ℕ = filter_map (number_among (names_of rows)) canonical_texts in
     let c_are : map (at bs) c_numbers ≡ c = (λ j. map (at bs) (filter_map (number_among (names j)) (cs j))) ∙ numbers-are bs c each_c in
-    let c_is : canonical ≡ c_numbers = canonical_is ∙ issued-append [] c_numbers (differ-from_map (at bs) c_numbers (subst AllDiffer (sym c_are) differ)) (λ k m e. Contains-nil k e) in
+    let c_is : canonical ≡ c_numbers = canonical_is ∙ issued-append [] c_numbers (AllDiffer-images (at bs) c_numbers (subst AllDiffer (sym c_are) differ)) (λ k m e. Contains-nil k e) in
     let i_are : map (at bs) (filter_map (number_among (names_of rows)) issuer_texts) ≡ i = (λ j. map (at bs) (filter_map (number_among (names j)) (is j))) ∙ numbers-are bs i each_i in
     let k_is : number_among (map blank_text bs) (blank_text n) ≡ Some number = (λ j. number_among (sym names j) (sym node_is j)) ∙ number_is in
     let got : slice_get bs number ≡ Some n = got_map bs number n (number-get (map blank_text bs) (blank_text n) number k_is) in

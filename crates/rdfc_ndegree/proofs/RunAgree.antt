@@ -13,14 +13,14 @@ use Rattle.std.proofs.lemmas.List.Sorted.{IsPermutation-sym, IsPermutation-map, 
 use Rattle.base_types.specs.Order.{is_upto}
 use Rattle.base_types.specs.Sets.{SameElements}
 use Rattle.base_types.proofs.Lists.{Contains-here, Contains-there, SameElements-trans, strictly_sorted-unique}
-use Rattle.base_types.proofs.Orders.{text_cmp, is_upto-cmp, by_cmp}
+use Rattle.base_types.proofs.Orders.{text_cmp, is_upto-cmp, by_cmp, bytes_eq-true, bytes_eq-same}
 use Rattle.rdfc_ndegree.specs.Nodes.{Nodes}
 use Rattle.rdfc_ndegree.specs.Groups.{Group}
 use Rattle.rdfc_ndegree.specs.NDegree.{Outcome, IsNDegree}
 use Rattle.rdfc_ndegree.specs.Run.{first_groups, alone, lacking, take_issuer, take_issuers, InHashOrder, results_tie, RunOutcome, Rounds, IsRun, MeetsTie, IsCanonicalIssuer}
-use Rattle.rdfc_ndegree.proofs.AgreeBasics.{same_tests, bytes_eq-true, bytes_eq-same, once, count_by-cons, count_by-two, count_by-none, AllZip-join}
+use Rattle.rdfc_ndegree.proofs.PrefixesAndPairs.{same_tests, once, count_by-cons, count_by-two, count_by-none, AllZip-join}
 use Rattle.rdfc_ndegree.proofs.Agree.{IsAgreed, IsNDegree-agrees}
-use Rattle.rdfc_ndegree.proofs.CarryBasics.{SameElements-permutation}
+use Rattle.rdfc_ndegree.proofs.Permutations.{SameElements-permutation}
 
 -- ---- the results of one group
 

@@ -7,13 +7,13 @@ use Rattle.std.proofs.lemmas.List.{map-append}
 use Rattle.std.proofs.lemmas.List.Elements.{All-map}
 use Rattle.std.proofs.lemmas.List.Sorted.{IsPermutation-refl, IsPermutation-sym, IsPermutation-trans, IsPermutation-cons, IsPermutation-middle, IsPermutation-map, Contains-permutation, length_permutation, list_any-IsPermutation}
 use Rattle.base_types.specs.Order.{is_upto}
-use Rattle.base_types.proofs.Lists.{Contains-here, Contains-cons_cases, Contains-nil}
+use Rattle.base_types.proofs.Lists.{Contains-here, Contains-cons_cases, Contains-nil, map-map}
 use Rattle.rdfc_ndegree.specs.Nodes.{Nodes}
 use Rattle.rdfc_ndegree.specs.Issuers.{has, issue}
 use Rattle.rdfc_ndegree.specs.Groups.{NodeHash, Group}
 use Rattle.rdfc_ndegree.specs.NDegree.{Outcome, IsNDegree}
 use Rattle.rdfc_ndegree.specs.Run.{with_first_hash, first_groups, if_alone, alone, lacking, take_issuer, take_issuers, InHashOrder, results_tie, work_of, depth_of, RunOutcome, run_more, Rounds, IsRun, MeetsTie, WorkOver, DepthOver, WithinLimits, IsCanonicalIssuer}
-use Rattle.rdfc_ndegree.proofs.CarryBasics.{through_permutation, IsPermutation-filter, AllZip-permutation, Each-permutation, Each-append, Each-filter, Each-map, map-map, map-agree, filter-map, list_any-map_each}
+use Rattle.rdfc_ndegree.proofs.Permutations.{through_permutation, IsPermutation-filter, AllZip-permutation, Each-permutation, Each-append, Each-filter, Each-map, map-agree, filter-map, list_any-map_each}
 use Rattle.rdfc_ndegree.proofs.Carry.{hashed_f, outcome_f, Carries, SameGroup, Arrives, grouped-carried, has-carried, issue-carried, issue-inside, IsNDegree-carried, IsNDegree-inside}
 
 abbrev pub result_f : {A B : Type 0} → (A → B) → RunOutcome A → RunOutcome B

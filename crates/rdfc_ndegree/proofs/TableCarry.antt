@@ -23,7 +23,7 @@ use Rattle.rdfc_ndegree.specs.Table.{numbers_below, occurrence_of, first_in, rel
 use Rattle.rdfc_ndegree.specs.TableOf.{IsOccurrence, IsRowOf, IsTableOf}
 use Rattle.rdfc_ndegree.specs.declared.table.Related.{Related}
 use Rattle.rdfc_ndegree.specs.declared.table.NodeRow.{NodeRow}
-use Rattle.rdfc_ndegree.proofs.CarryBasics.{AllDiffer-permutation, IsPermutation-from_elements, Each-from_contains}
+use Rattle.rdfc_ndegree.proofs.Permutations.{AllDiffer-permutation, IsPermutation-from_elements, Each-from_contains}
 use Rattle.rdfc_ndegree.proofs.Lawful.{blanks-all, AllDiffer-blanks}
 use Rattle.rdfc_ndegree.specs.Issuers.{number, canonical_id}
 use Rattle.rdfc_ndegree.specs.NDegree.{Outcome, IsNDegree}

@@ -11,7 +11,7 @@ use Rattle.std.proofs.lemmas.List.Elements.{All-contains, All-from_recursion, Co
 use Rattle.std.proofs.lemmas.List.Folds.{list_any-append}
 use Rattle.base_types.specs.Order.{in_order}
 use Rattle.base_types.specs.Sets.{AllDiffer}
-use Rattle.base_types.proofs.Lists.{Contains-nil, Contains-here, Contains-there, Contains-cons_cases, Contains-map, Contains-from_map}
+use Rattle.base_types.proofs.Lists.{Contains-nil, Contains-here, Contains-there, Contains-cons_cases, Contains-map, Contains-from_map, AllDiffer-images, map-map}
 use Rattle.digest_mac.specs.Digests.{sha256_digits}
 use Rattle.nquads.specs.Terms.{Blank, Term, iri, literal, blank, Statement}
 use Rattle.nquads.specs.Renaming.{same_blank, blanks_of_term, blanks_of_graph, blanks_of, StandsIn}
@@ -33,8 +33,8 @@ use Rattle.rdfc_ndegree.specs.declared.table.Related.{Related}
 use Rattle.rdfc_ndegree.specs.declared.table.NodeRow.{NodeRow}
 use Rattle.rdfc_ndegree.specs.Table.{number_among, names_of}
 use Rattle.rdfc_ndegree.specs.Internal.Building.{new_row, with_row, with_rows, unused_name, parts_by_number, related_nodes_at, related_nodes, with_related, relate_row, relate_node, relate_object, relate_parts, relate_all}
-use Rattle.rdfc_ndegree.proofs.Basics.{AllZip-append}
-use Rattle.rdfc_ndegree.proofs.CarryBasics.{Each-append, Each-from_contains, Each-weaker, map-map}
+use Rattle.rdfc_ndegree.proofs.Membership.{AllZip-append}
+use Rattle.rdfc_ndegree.proofs.Permutations.{Each-append, Each-from_contains, Each-weaker}
 use Rattle.rdfc_ndegree.proofs.BuildLemmas.{number-get, number-below, number-there, number-None, number-Some, is_at, stands, given, gets-all, names-all, names-append, others-named}
 
 -- ---- related nodes are rows
@@ -265,7 +265,7 @@ module _ (bs : List Blank) (differ : AllDiffer bs) (k : ℕ) (b : Blank) (at_k :
       subst (λ os. AllZip (IsOccurrence bs) os (related_in (s ∷ q) b)) (sym split)
       (go (stands k (numbers s)) (mentions b s) (stands-mentions s within) (statement_links s within) rest)
     where
-      go : (t u : Bool) → t ≡ u → AllZip (IsOccurrence bs) (map occurrence_of (related_nodes k (numbers s))) (occurrences_in b s) → AllZip (IsOccurrence bs) (map occurrence_of (flat_map (given k) (map numbers q))) (related_in q b) → AllZip (IsOccurrence bs) (map occurrence_of (cond t (related_nodes k (numbers s)) []) ++ map occurrence_of (flat_map (given k) (map numbers q))) (flat_map (occurrences_in b) (cond u (s ∷ about q b) (about q b)))
+      go : (t u : Bool) → t ≡ u → AllZip (IsOccurrence bs) (map occurrence_of (related_nodes k (numbers s))) (occurrences_in b s) → AllZip (IsOccurrence bs) (map occurrence_of (flat_map (given k) (map numbers q))) (related_in q b) → AllZip (IsOccurrence bs) (map occurrence_of (cond t (related_nodes k (numbers s)) []) ++ map occurrence_of (flat_map (given k) (map numbers q))) (flat_map (occurrences_in b) (cond u (s ∷ mention_set q b) (mention_set q b)))
       go true true e first rest = AllZip-append (IsOccurrence bs) (map occurrence_of (related_nodes k (numbers s))) (map occurrence_of (flat_map (given k) (map numbers q))) (occurrences_in b s) (related_in q b) first rest
       go true false e first rest = absurd (false≢true (sym e))
       go false true e first rest = absurd (false≢true e)
@@ -392,10 +392,6 @@ module _ (q : List Statement) (firsts : List BlankHash) (cs : List Blank) where
       let rest = d.names in
       record { nodes = good.0.node ∷ d.nodes; zip = (good.0.is, d.zip); each = (good.0.from, d.each); names = λ i. first i ∷ rest i }
 
-pub differ-from_map : {X Y : Type 0} (f : X → Y) (xs : List X) → AllDiffer (map f xs) → AllDiffer xs
-differ-from_map f [] a = AllDiffer-nil
-differ-from_map f (x ∷ xs) a = AllDiffer-cons x xs (λ m. AllDiffer-head (f x) (map f xs) a (Contains-map f xs x m)) (differ-from_map f xs (AllDiffer-tail (f x) (map f xs) a))
-
 named_there : (bs : List Blank) (b : Blank) → Contains (map blank_text bs) (blank_text b) → Contains bs b
 named_there bs b c = let found = Contains-from_map blank_text bs (blank_text b) c in subst (Contains bs) (blank_text_one_reading found.0 b found.2) found.1
 
@@ -421,7 +417,7 @@ built_table q firsts cs rows s there =
     let d = drawn q firsts cs rows s.good in
     let bs = d.nodes in
     let ps = map (parts_by_number (names_of rows)) (map text_quad q) in
-    let differ : AllDiffer bs = differ-from_map blank_text bs (subst AllDiffer d.names s.differ) in
+    let differ : AllDiffer bs = AllDiffer-images blank_text bs (subst AllDiffer d.names s.differ) in
     let covers : (b : Blank) → StandsIn q b → Contains bs b = λ b stands. named_there bs b (subst (λ ns. Contains ns (blank_text b)) d.names (s.covers b stands)) in
     let within : (t : Statement) → Contains q t → (c : Blank) → Contains (blanks_of t) c → Contains bs c = λ t m c n. covers c (to_blanks_in q t c m n) in
     let long : length bs ≡ length (relate_all rows ps) = sym (length-map bs blank_text) ∙ ap length (sym d.names) ∙ ap length (sym (names-all rows ps)) ∙ length-names (relate_all rows ps) in

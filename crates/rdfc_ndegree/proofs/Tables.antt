@@ -10,7 +10,8 @@ use Rattle.rdfc_ndegree.specs.Issuers.{has, number, canonical_id, temporary_id}
 use Rattle.rdfc_ndegree.specs.Table.{numbers_below, first_in, related_in_row, table_nodes}
 use Rattle.rdfc_ndegree.specs.NumberIssuers.{number_in, place_in}
 use Rattle.rdfc_ndegree.specs.declared.table.NodeRow.{NodeRow}
-use Rattle.rdfc_ndegree.proofs.AgreeBasics.{list_any-none, false_unless}
+use Rattle.rdfc_ndegree.proofs.PrefixesAndPairs.{list_any-none}
+use Rattle.std.proofs.lemmas.Bool.{false_from_ne_true}
 
 module _ (rows : List NodeRow) where
   pub table-all : (table_nodes rows).all ≡ numbers_below (length rows)
@@ -69,7 +70,7 @@ number-absent [] n e = refl
 number-absent (x ∷ xs) n e = grind (arith, nat_tests, number-absent xs n)
 
 pub absent-any : (xs : List ℕ) (n : ℕ) → (Contains xs n → ⊥) → list_any (λ m. m == n) xs ≡ false
-absent-any xs n absent = list_any-none (λ m. m == n) xs (λ m k. false_unless (m == n) (λ e. absent (subst (Contains xs) ((Decides-eqb m n).0 e) k)))
+absent-any xs n absent = list_any-none (λ m. m == n) xs (λ m k. false_from_ne_true (m == n) (λ e. absent (subst (Contains xs) ((Decides-eqb m n).0 e) k)))
 
 -- the first place that holds the number
 pub place-found : (xs : List ℕ) (n k : ℕ) → k < length xs → get_or xs k 0 ≡ n → list_any (λ m. m == n) (take k xs) ≡ false → Some k ≡ place_in xs n

@@ -21,10 +21,10 @@ pub record FirstPass (rows : List NodeRow) (c i ms : List ℕ) (path now new res
 
 -- how an identifier is spelled
 abbrev pub canonical_text : ℕ → List ℕ
-canonical_text k = 95 ∷ 58 ∷ (codes "c14n" ++ decimal k)
+canonical_text k = codes "_:" ++ (codes "c14n" ++ decimal k)
 
 abbrev pub temporary_text : ℕ → List ℕ
-temporary_text k = 95 ∷ 58 ∷ (codes "b" ++ decimal k)
+temporary_text k = codes "_:" ++ (codes "b" ++ decimal k)
 
 module _ (rows : List NodeRow) (c i : List ℕ) (n : ℕ) where
   canonical-yes : (k : ℕ) → Some k ≡ place_in c n → (has (table_nodes rows) c n ≡ true) × (canonical_id (table_nodes rows) c n ≡ codes "c14n" ++ decimal k)

@@ -1,6 +1,6 @@
 -- N-degree hashing as a relation: every arrangement of a group is evaluated, and any with the least path
 -- may be chosen. RDF Canonicalization, 4.8, Hash N-Degree Quads. Ties, work and depth are this project's.
-use Rattle.std.specs.Prelude.{◌≡◌, ◌+◌, ℕ, zero, suc, max, List, [], ◌∷◌, ◌++◌, Bool, true, false, ◌||◌, ◌==◌, nat_lt, All, Contains, count_by, bytes_eq, if◌then◌else◌, IsPermutation}
+use Rattle.std.specs.Prelude.{◌≡◌, ◌+◌, ℕ, zero, suc, max, List, [], ◌∷◌, ◌++◌, Bool, true, false, ◌||◌, ◌==◌, nat_lt, All, Contains, count_by, bytes_eq, codes, if◌then◌else◌, IsPermutation}
 use Rattle.std.specs.List.{AllZip, list_any, starts_with}
 use Rattle.base_types.specs.Order.{is_upto}
 use Rattle.base_types.specs.Sets.{AllDiffer, HasExactly}
@@ -40,32 +40,37 @@ Calls B = B → List B → Outcome B → Type 0
 
 -- ---- One arrangement. RDF Canonicalization, 4.8.3, step 5.4
 
--- the issuer after a member: it names one that has neither a canonical nor a temporary identifier
+-- the issuer after a member: it issues an identifier for one that has neither a canonical nor a temporary one
 abbrev pub issue_temporary : {B : Type 0} → Nodes B → List B → List B → B → List B
 issue_temporary v c i m = if has v c m then i else issue v i m
 
 -- `_:` and the canonical identifier of a member, or else the temporary one
 abbrev pub identifier : {B : Type 0} → Nodes B → List B → List B → B → List ℕ
-identifier v c i m = 95 ∷ 58 ∷ (if has v c m then canonical_id v c m else temporary_id v i m)
+identifier v c i m =
+    codes "_:" ++ (if has v c m then canonical_id v c m else temporary_id v i m)
 
--- the issuer after all members, the path that they give, and those of them that were named here, in order.
--- -- RDF Canonicalization, 4.8.3, step 5.4.4
+-- The issuer copy after all members, the path that they give, and the recursion list: those of them that were named
+-- here, in order. RDF Canonicalization, 4.8.3, step 5.4.4
 abbrev pub issuer_copy : {B : Type 0} → Nodes B → List B → List B → List B → List B
 issuer_copy v c i [] = i
 issuer_copy v c i (m ∷ ms) = issuer_copy v c (issue_temporary v c i m) ms
 
 abbrev pub first_path : {B : Type 0} → Nodes B → List B → List B → List B → List ℕ
 first_path v c i [] = []
-first_path v c i (m ∷ ms) = identifier v c (issue_temporary v c i m) m ++ first_path v c (issue_temporary v c i m) ms
+first_path v c i (m ∷ ms) =
+    identifier v c (issue_temporary v c i m) m ++ first_path v c (issue_temporary v c i m) ms
 
 abbrev pub recursion_list : {B : Type 0} → Nodes B → List B → List B → List B → List B
 recursion_list v c i [] = []
-recursion_list v c i (m ∷ ms) = if has v c m || has v i m then recursion_list v c i ms else m ∷ recursion_list v c (issue_temporary v c i m) ms
+recursion_list v c i (m ∷ ms) =
+    if has v c m || has v i m then recursion_list v c i ms
+    else m ∷ recursion_list v c (issue_temporary v c i m) ms
 
--- what a nested call adds to the path: `_:` and the member's temporary identifier, and the hash in angle
--- brackets. -- RDF Canonicalization, 4.8.3, steps 5.4.5.2 and 5.4.5.3
+-- What a nested call adds to the path: `_:` and the member's temporary identifier, and the hash in angle brackets.
+-- RDF Canonicalization, 4.8.3, steps 5.4.5.2 and 5.4.5.3
 abbrev pub path_part : {B : Type 0} → Nodes B → List B → B → List ℕ → List ℕ
-path_part v i m hash = 95 ∷ 58 ∷ (temporary_id v i m ++ (60 ∷ (hash ++ 62 ∷ [])))
+path_part v i m hash =
+    codes "_:" ++ (temporary_id v i m ++ (codes "<" ++ (hash ++ codes ">")))
 
 -- the trail where no member is left
 abbrev pub trail_end : {B : Type 0} → List B → List ℕ → Trail B
@@ -73,25 +78,36 @@ trail_end i path = record { path = path; issuer = i; ties = []; work = 0; depth 
 
 -- a trail with a nested call in front, which was made when the path was this
 abbrev pub trail_more : {B : Type 0} → List ℕ → Outcome B → Trail B → Trail B
-trail_more path o t = record { path = t.path; issuer = t.issuer; ties = if o.tie then path ∷ t.ties else t.ties; work = o.work + t.work; depth = max o.depth t.depth }
+trail_more path o t = record {
+  path = t.path;
+  issuer = t.issuer;
+  ties = if o.tie then path ∷ t.ties else t.ties;
+  work = o.work + t.work;
+  depth = max o.depth t.depth;
+}
 
 -- one nested call with what may follow it
-pub record Enters {B : Type 0} (path : List ℕ) (call : Outcome B → Type 0) (follows : Outcome B → Trail B → Type 0) (t : Trail B) : Type 0 where
+pub record Enters {B : Type 0} (path : List ℕ) (call : Outcome B → Type 0)
+    (follows : Outcome B → Trail B → Type 0) (t : Trail B) : Type 0 where
   pub outcome : Outcome B
   pub rest : Trail B
   pub called : call outcome
   pub goes_on : follows outcome rest
   pub is : t ≡ trail_more path outcome rest
 
--- The nested calls for the members that were named here, in order, each with the issuer that the one before
--- gave. -- RDF Canonicalization, 4.8.3, step 5.4.5
-abbrev pub Nested : {B : Type 0} → Nodes B → Calls B → List B → List ℕ → List B → Trail B → Type 0
+-- The nested calls for the recursion list, in order, each with the issuer that the one before gave.
+-- RDF Canonicalization, 4.8.3, step 5.4.5
+abbrev pub Nested :
+    {B : Type 0} → Nodes B → Calls B → List B → List ℕ → List B → Trail B → Type 0
 Nested v calls i path [] t = t ≡ trail_end i path
-Nested v calls i path (m ∷ ms) t = Enters path (calls m i) (λ o u. Nested v calls o.issuer (path ++ path_part v i m o.hash) ms u) t
+Nested v calls i path (m ∷ ms) t =
+    Enters path (calls m i) (λ o u. Nested v calls o.issuer (path ++ path_part v i m o.hash) ms u) t
 
 -- The arrangement p, begun with the issuer i, may give t.
-abbrev pub Evaluates : {B : Type 0} → Nodes B → Calls B → List B → List B → List B → Trail B → Type 0
-Evaluates v calls c i p t = Nested v calls (issuer_copy v c i p) (first_path v c i p) (recursion_list v c i p) t
+abbrev pub Evaluates :
+    {B : Type 0} → Nodes B → Calls B → List B → List B → List B → Trail B → Type 0
+Evaluates v calls c i p t =
+    Nested v calls (issuer_copy v c i p) (first_path v c i p) (recursion_list v c i p) t
 
 -- ---- One group. RDF Canonicalization, 4.8.3, step 5
 
@@ -107,7 +123,8 @@ counts least ties = list_any (λ before. starts_with ◌==◌ least before) ties
 -- A group meets a tie where two of its arrangements have the least path, or where a nested tie of any of
 -- its arrangements counts.
 abbrev pub meets_tie : {B : Type 0} → List ℕ → List (Trail B) → Bool
-meets_tie least ts = nat_lt 1 (count_by (λ t. bytes_eq t.path least) ts) || list_any (λ t. counts least t.ties) ts
+meets_tie least ts =
+    nat_lt 1 (count_by (λ t. bytes_eq t.path least) ts) || list_any (λ t. counts least t.ties) ts
 
 -- each arrangement is one unit of work, besides that of its nested calls
 abbrev pub total_work : {B : Type 0} → List (Trail B) → ℕ
@@ -119,11 +136,18 @@ greatest_depth [] = 0
 greatest_depth (t ∷ ts) = max t.depth (greatest_depth ts)
 
 abbrev pub choice_of : {B : Type 0} → Trail B → List (Trail B) → Choice B
-choice_of best ts = record { path = best.path; issuer = best.issuer; tie = meets_tie best.path ts; work = total_work ts; depth = greatest_depth ts }
+choice_of best ts = record {
+  path = best.path;
+  issuer = best.issuer;
+  tie = meets_tie best.path ts;
+  work = total_work ts;
+  depth = greatest_depth ts;
+}
 
 -- Every arrangement of the members is evaluated, and one with the least path is chosen.
 -- RDF Canonicalization, 4.8.3, steps 5.4 and 5.4.6
-pub record IsChoice {B : Type 0} (evaluates : List B → Trail B → Type 0) (members : List B) (choice : Choice B) : Type 0 where
+pub record IsChoice {B : Type 0} (evaluates : List B → Trail B → Type 0) (members : List B)
+    (choice : Choice B) : Type 0 where
   pub arrangements : List (List B)
   pub trails : List (Trail B)
   pub best : Trail B
@@ -137,14 +161,22 @@ pub record IsChoice {B : Type 0} (evaluates : List B → Trail B → Type 0) (me
 
 -- the outcome where no group is left: the digest of the data. -- RDF Canonicalization, 4.8.3, step 6
 abbrev pub outcome_end : {B : Type 0} → Nodes B → List ℕ → List B → Outcome B
-outcome_end v text i = record { hash = v.digest text; issuer = i; tie = false; work = 0; depth = 0 }
+outcome_end v text i =
+    record { hash = v.digest text; issuer = i; tie = false; work = 0; depth = 0 }
 
 -- an outcome with a group's choice in front
 abbrev pub outcome_more : {B : Type 0} → Choice B → Outcome B → Outcome B
-outcome_more x o = record { hash = o.hash; issuer = o.issuer; tie = x.tie || o.tie; work = x.work + o.work; depth = max x.depth o.depth }
+outcome_more x o = record {
+  hash = o.hash;
+  issuer = o.issuer;
+  tie = x.tie || o.tie;
+  work = x.work + o.work;
+  depth = max x.depth o.depth;
+}
 
 -- one group's choice with what may follow it
-pub record Chooses {B : Type 0} (chooses : Choice B → Type 0) (follows : Choice B → Outcome B → Type 0) (o : Outcome B) : Type 0 where
+pub record Chooses {B : Type 0} (chooses : Choice B → Type 0) (follows : Choice B → Outcome B → Type 0)
+    (o : Outcome B) : Type 0 where
   pub choice : Choice B
   pub rest : Outcome B
   pub is_choice : chooses choice
@@ -153,15 +185,20 @@ pub record Chooses {B : Type 0} (chooses : Choice B → Type 0) (follows : Choic
 
 -- The groups in hash order, each with the issuer that was chosen in the one before. The group's hash and
 -- the chosen path go to the data. RDF Canonicalization, 4.8.3, steps 5.1, 5.5 and 5.6
-abbrev pub InGroups : {B : Type 0} → Nodes B → Calls B → List B → List ℕ → List B → List (Group B) → Outcome B → Type 0
+abbrev pub InGroups :
+    {B : Type 0} → Nodes B → Calls B → List B → List ℕ → List B → List (Group B) → Outcome B → Type 0
 InGroups v calls c text i [] o = o ≡ outcome_end v text i
-InGroups v calls c text i (g ∷ gs) o = Chooses (IsChoice (Evaluates v calls c i) g.members) (λ x rest. InGroups v calls c (text ++ (g.hash ++ x.path)) x.issuer gs rest) o
+InGroups v calls c text i (g ∷ gs) o =
+    Chooses (IsChoice (Evaluates v calls c i) g.members)
+    (λ x rest. InGroups v calls c (text ++ (g.hash ++ x.path)) x.issuer gs rest) o
 
 abbrev pub one_deeper : {B : Type 0} → Outcome B → Outcome B
-one_deeper o = record { hash = o.hash; issuer = o.issuer; tie = o.tie; work = o.work; depth = 1 + o.depth }
+one_deeper o =
+    record { hash = o.hash; issuer = o.issuer; tie = o.tie; work = o.work; depth = 1 + o.depth }
 
 -- a call whose nested calls are among `calls`
-pub record IsCall {B : Type 0} (v : Nodes B) (c : List B) (calls : Calls B) (n : B) (i : List B) (o : Outcome B) : Type 0 where
+pub record IsCall {B : Type 0} (v : Nodes B) (c : List B) (calls : Calls B) (n : B) (i : List B)
+    (o : Outcome B) : Type 0 where
   pub inner : Outcome B
   pub groups : InGroups v calls c [] i (related_groups v c i n) inner
   pub is : o ≡ one_deeper inner
@@ -173,6 +210,7 @@ IsNDegreeWithin v c (suc k) = IsCall v c (IsNDegreeWithin v c k)
 
 -- An n-degree call for the node n with the issuer i, where c is the canonical issuer, may give o.
 -- RDF Canonicalization, 4.8
-pub record IsNDegree {B : Type 0} (v : Nodes B) (c : List B) (n : B) (i : List B) (o : Outcome B) : Type 0 where
+pub record IsNDegree {B : Type 0} (v : Nodes B) (c : List B) (n : B) (i : List B) (o : Outcome B)
+    : Type 0 where
   pub within : ℕ
   pub call : IsNDegreeWithin v c within n i o

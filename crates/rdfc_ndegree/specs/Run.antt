@@ -71,12 +71,18 @@ abbrev pub run_end : {B : Type 0} → List B → RunOutcome B
 run_end c = record { issuer = c; tie = false; work = 0; depth = 0 }
 
 abbrev pub run_more : {B : Type 0} → List (Outcome B) → RunOutcome B → RunOutcome B
-run_more os r = record { issuer = r.issuer; tie = results_tie os || r.tie; work = work_of os + r.work; depth = max (depth_of os) r.depth }
+run_more os r = record {
+  issuer = r.issuer;
+  tie = results_tie os || r.tie;
+  work = work_of os + r.work;
+  depth = max (depth_of os) r.depth;
+}
 
 -- One group of one first-degree hash: each member without canonical identifier is hashed with a new issuer
 -- that has named it alone, and the results are taken in hash order, equals in any.
 -- RDF Canonicalization, 4.4.3, step 5
-pub record Round {B : Type 0} (v : Nodes B) (c : List B) (members : List B) (follows : List B → RunOutcome B → Type 0) (r : RunOutcome B) : Type 0 where
+pub record Round {B : Type 0} (v : Nodes B) (c : List B) (members : List B)
+    (follows : List B → RunOutcome B → Type 0) (r : RunOutcome B) : Type 0 where
   pub outcomes : List (Outcome B)
   pub sorted : List (Outcome B)
   pub rest : RunOutcome B

@@ -29,7 +29,13 @@ related_in_row (Some row) = map occurrence_of row.related
 
 -- The nodes of a table: the numbers of its rows.
 unfoldable pub table_nodes : List NodeRow → Nodes ℕ
-table_nodes rows = record { all = numbers_below (length rows); same = ◌==◌; digest = sha256_digits; first = λ n. first_in (slice_get rows n); related = λ n. related_in_row (slice_get rows n) }
+table_nodes rows = record {
+  all = numbers_below (length rows);
+  same = ◌==◌;
+  digest = sha256_digits;
+  first = λ n. first_in (slice_get rows n);
+  related = λ n. related_in_row (slice_get rows n);
+}
 
 -- each related node is a row of the table
 abbrev pub IsClosed : List NodeRow → Type 0
@@ -38,7 +44,8 @@ IsClosed rows = All (λ (row : NodeRow). All (λ (r : Related). r.node < length 
 -- the number of a text: its position among the texts, from 0
 abbrev pub number_among : List (List ℕ) → List ℕ → Option ℕ
 number_among [] text = None
-number_among (name ∷ names) text = if bytes_eq text name then Some 0 else option_map suc (number_among names text)
+number_among (name ∷ names) text =
+    if bytes_eq text name then Some 0 else option_map suc (number_among names text)
 
 -- the texts of the rows
 abbrev pub names_of : List NodeRow → List (List ℕ)

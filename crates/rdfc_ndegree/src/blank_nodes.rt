@@ -44,6 +44,7 @@ pub fn n_degree(
     meter: &mut Meter,
 ) -> Result<Path, CanonFault>
     ensures limits { meter.new.limits ≡ meter.old.limits }
+    ensures rises { meter.old.spent ≤ meter.new.spent }
     ensures kept { meter.old.spent ≤ meter.old.limits.work → IfOk result (λ _. meter.new.spent ≤ meter.old.limits.work) }
     ensures ok { (q : List Statement) (n : Blank) (c i : List Blank)
         → IsSpelledCall q n c i (call_texts quads.now firsts.now canonical.now.order node.now issuer.order)

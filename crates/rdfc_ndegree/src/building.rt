@@ -170,7 +170,13 @@ fn relate_node(rows: &mut Vec<NodeRow>, node: Option<usize>, parts: &Parts) -> R
     let Some(node) = node else {
         return Ok(());
     };
-    push_related(rows, node, Position::Subject, &parts.predicate, parts.subject)?;
+    push_related(
+        rows,
+        node,
+        Position::Subject,
+        &parts.predicate,
+        parts.subject,
+    )?;
     push_related(rows, node, Position::Object, &parts.predicate, parts.object)?;
     push_related(rows, node, Position::Graph, &parts.predicate, parts.graph)?;
     Ok(())

@@ -85,7 +85,11 @@ fn rows_have_their_related_nodes(rt: HostRuntime) -> Result<(), Memory> {
             table.row(1),
             "_:ny",
             &[b'2'; 64],
-            &[(Position::Subject, 0), (Position::Object, 0), (Position::Subject, 0)]
+            &[
+                (Position::Subject, 0),
+                (Position::Object, 0),
+                (Position::Subject, 0)
+            ]
         )
     );
     assert!(rt; is_row(table.row(2), "_:nq", NOTHING.as_bytes(), &[]));

@@ -36,6 +36,7 @@ pub fn hash_n_degree(
     requires node { node < length table.now }
     requires issuer { All (λ k. k < length table.now) issuer }
     ensures limits { meter.new.limits ≡ meter.old.limits }
+    ensures rises { meter.old.spent ≤ meter.new.spent }
     ensures kept { meter.old.spent ≤ meter.old.limits.work → IfOk result (λ _. meter.new.spent ≤ meter.old.limits.work) }
     ensures inside { IfOk result (λ p. All (λ k. k < length table.now) p.issuer) }
     ensures ok { IfOk result (λ p. AnswersCall (table_nodes table.now) canonical.now node issuer (answer p.hash p.issuer p.tie) (spending meter.old meter.new depth)) }
@@ -73,6 +74,7 @@ fn call(
     requires issuer { All (λ k. k < length table.now) issuer }
     requires depth { depth ≤ meter.old.limits.depth }
     ensures limits { meter.new.limits ≡ meter.old.limits }
+    ensures rises { meter.old.spent ≤ meter.new.spent }
     ensures kept { meter.old.spent ≤ meter.old.limits.work → IfOk result (λ _. meter.new.spent ≤ meter.old.limits.work) }
     ensures inside { IfOk result (λ p. All (λ k. k < length table.now) p.issuer) }
     ensures ok { IfOk result (λ p. AnswersCall (table_nodes table.now) canonical.now node issuer (answer p.hash p.issuer p.tie) (spending meter.old meter.new depth)) }
@@ -137,6 +139,7 @@ fn choose(
     requires members { All (λ k. k < length table.now) members.now }
     requires depth { depth ≤ meter.old.limits.depth }
     ensures limits { meter.new.limits ≡ meter.old.limits }
+    ensures rises { meter.old.spent ≤ meter.new.spent }
     ensures kept { meter.old.spent ≤ meter.old.limits.work → IfOk result (λ _. meter.new.spent ≤ meter.old.limits.work) }
     ensures inside { IfOk result (λ x. All (λ k. k < length table.now) x.issuer) }
     ensures ok { IfOk result (λ x. AnswersChoice (table_nodes table.now) canonical.now issuer.now members.now (choice_answer x.path x.issuer x.tie) (spending meter.old meter.new depth)) }
@@ -156,6 +159,7 @@ fn choose(
 /// Counts one arrangement, before it is begin_with.
 fn count_arrangement(meter: &mut Meter) -> Result<(), CanonFault>
     ensures limits { meter.new.limits ≡ meter.old.limits }
+    ensures rises { meter.old.spent ≤ meter.new.spent }
     ensures counted { OnOk result ((meter.new.spent ≡ meter.old.spent + 1) × (meter.old.spent < meter.old.limits.work)) }
     ensures full { IfErr result (λ e. (e ≡ CanonFault.TooMuchWork meter.old.limits.work) × (meter.old.limits.work ≤ meter.old.spent)) }
 {
@@ -183,6 +187,7 @@ fn evaluate(
     requires arrangement { All (λ k. k < length table.now) arrangement.now }
     requires depth { depth ≤ meter.old.limits.depth }
     ensures limits { meter.new.limits ≡ meter.old.limits }
+    ensures rises { meter.old.spent ≤ meter.new.spent }
     ensures kept { meter.old.spent ≤ meter.old.limits.work → IfOk result (λ _. meter.new.spent ≤ meter.old.limits.work) }
     ensures inside { IfOk result (λ x. All (λ k. k < length table.now) x.issuer) }
     ensures ok { IfOk result (λ x. AnswersTrail (table_nodes table.now) canonical.now issuer.now arrangement.now (trail_answer x.path x.issuer x.ties.items) (spending meter.old meter.new depth)) }
@@ -201,7 +206,15 @@ fn evaluate(
             return Err(CanonFault::TooDeep(meter.limits.depth));
         }
         let begin_with = copy_of(&current)?;
-        let nested = call(alloc, table, canonical, *member, begin_with, depth + 1, meter)?;
+        let nested = call(
+            alloc,
+            table,
+            canonical,
+            *member,
+            begin_with,
+            depth + 1,
+            meter,
+        )?;
         note_tie(alloc, &mut ties, nested.tie, path.as_slice())?;
         push_path_part(alloc, &mut path, current.as_slice(), *member, &nested.hash)?;
         current = nested.issuer;

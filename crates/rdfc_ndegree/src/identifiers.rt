@@ -19,7 +19,7 @@ pub fn place_of(issuer: &[usize], node: usize) -> Option<usize>
 
 /// Puts `_:c14n` and a number in the canonical issuer at the end.
 pub fn push_canonical(alloc: Global, text: &mut Vec<u8>, number: usize) -> Result<(), Memory>
-    ensures { OnOk result (text.new.items ≡ text.old.items ++ (95 ∷ 58 ∷ (codes "c14n" ++ decimal number))) }
+    ensures { OnOk result (text.new.items ≡ text.old.items ++ (codes "_:c14n" ++ decimal number)) }
 {
     let identifier = format!(in alloc; "_:c14n{number}")?;
     text.extend_from_slice(identifier.as_bytes())?;
@@ -28,7 +28,7 @@ pub fn push_canonical(alloc: Global, text: &mut Vec<u8>, number: usize) -> Resul
 
 /// Puts `_:b` and a number in an issuer of one n-degree call at the end.
 pub fn push_temporary(alloc: Global, text: &mut Vec<u8>, number: usize) -> Result<(), Memory>
-    ensures { OnOk result (text.new.items ≡ text.old.items ++ (95 ∷ 58 ∷ (codes "b" ++ decimal number))) }
+    ensures { OnOk result (text.new.items ≡ text.old.items ++ (codes "_:b" ++ decimal number)) }
 {
     let identifier = format!(in alloc; "_:b{number}")?;
     text.extend_from_slice(identifier.as_bytes())?;

@@ -8,7 +8,9 @@ use Rattle.rdfc_ndegree.specs.declared.table.NodeRow.{NodeRow}
 -- the labels with the next one for a row that has none
 abbrev pub with_label : List TextLabel → Option NodeRow → List TextLabel
 with_label ls None = ls
-with_label ls (Some row) = if is_some (find_label ls row.blank) then ls else ls ++ label row.blank (codes "c14n" ++ decimal (length ls)) ∷ []
+with_label ls (Some row) =
+    if is_some (find_label ls row.blank) then ls
+    else ls ++ label row.blank (codes "c14n" ++ decimal (length ls)) ∷ []
 
 -- the same for each number in order
 abbrev pub all_labels : List NodeRow → List TextLabel → List ℕ → List TextLabel

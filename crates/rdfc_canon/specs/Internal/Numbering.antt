@@ -1,9 +1,10 @@
--- The run over the numbers of a table: how far it has come, and what each part of it answers. `spent` counts
--- arrangements before and after. RDF Canonicalization, 4.4.3, steps 3 to 5.
+-- The run over the numbers of a table: what each part of it answers.
+-- RDF Canonicalization, 4.4.3, steps 3 to 5.
 use Rattle.std.specs.Prelude.{◌≡◌, ◌<◌, ◌≤◌, ◌+◌, ◌==◌, ◌||◌, ℕ, max, List, [], ◌∷◌, ◌++◌, Bool, false, bytes_eq, if◌then◌else◌, IsPermutation}
 use Rattle.std.specs.List.{AllZip, list_any}
 use Rattle.rdfc_ndegree.specs.Nodes.{Nodes}
-use Rattle.rdfc_ndegree.specs.Groups.{Group}
+use Rattle.rdfc_ndegree.specs.Answers.{Spending}
+use Rattle.rdfc_ndegree.specs.declared.limits.Limits.{Limits}
 use Rattle.rdfc_ndegree.specs.NDegree.{Outcome, IsNDegree}
 use Rattle.rdfc_ndegree.specs.Run.{RunOutcome, IsRun, Rounds, lacking, take_issuers, InHashOrder, results_tie, work_of, depth_of}
 use Rattle.rdfc_ndegree.specs.declared.path.NodePath.{NodePath}
@@ -35,12 +36,13 @@ pub record IsPathOf (path : NodePath) (o : Outcome ℕ) : Type 0 where
 
 -- The paths are those of calls of the nodes ns, the count has risen by exactly their arrangements, and none
 -- is deeper than the limit.
-pub record AnswersHashes (v : Nodes ℕ) (c ns : List ℕ) (paths : List NodePath) (old new limit : ℕ) : Type 0 where
+pub record AnswersHashes (v : Nodes ℕ) (c ns : List ℕ) (paths : List NodePath) (s : Spending)
+    : Type 0 where
   pub outcomes : List (Outcome ℕ)
   pub hashed : AllZip (HashesAlone v c) ns outcomes
   pub paths_are : AllZip IsPathOf paths outcomes
-  pub spent : new ≡ old + work_of outcomes
-  pub within : depth_of outcomes ≤ limit
+  pub spent : s.after ≡ s.before + work_of outcomes
+  pub within : depth_of outcomes ≤ s.limit
 
 -- the work, or the depth, of some calls of the nodes ns is over the limit
 pub record HashesOver {B : Type 0} (v : Nodes B) (c ns : List B) (old limit : ℕ) : Type 0 where
@@ -54,7 +56,8 @@ pub record HashesDeep {B : Type 0} (v : Nodes B) (c ns : List B) (limit : ℕ) :
   pub over : limit < depth_of outcomes
 
 -- A group is taken: its results, put in hash order, have made the canonical issuer d of c.
-pub record AnswersRound {B : Type 0} (v : Nodes B) (c members d : List B) (tie : Bool) (old new limit : ℕ) : Type 0 where
+pub record AnswersRound {B : Type 0} (v : Nodes B) (c members d : List B) (tie : Bool) (s : Spending)
+    : Type 0 where
   pub outcomes : List (Outcome B)
   pub sorted : List (Outcome B)
   pub hashed : AllZip (HashesAlone v c) (lacking v c members) outcomes
@@ -62,15 +65,16 @@ pub record AnswersRound {B : Type 0} (v : Nodes B) (c members d : List B) (tie :
   pub in_order : InHashOrder sorted
   pub issuer_is : d ≡ take_issuers v c sorted
   pub tie_is : tie ≡ results_tie outcomes
-  pub spent : new ≡ old + work_of outcomes
-  pub within : depth_of outcomes ≤ limit
+  pub spent : s.after ≡ s.before + work_of outcomes
+  pub within : depth_of outcomes ≤ s.limit
 
 -- Issuer, tie and work are those of one run, and neither its work nor its depth is over its limit.
-pub record AnswersNumbers {B : Type 0} (v : Nodes B) (work_limit depth_limit : ℕ) (issuer : List B) (tie : Bool) (work : ℕ) : Type 0 where
+pub record AnswersNumbers {B : Type 0} (v : Nodes B) (limits : Limits) (issuer : List B) (tie : Bool)
+    (work : ℕ) : Type 0 where
   pub run : RunOutcome B
   pub is_run : IsRun v run
   pub issuer_is : issuer ≡ run.issuer
   pub tie_is : tie ≡ run.tie
   pub work_is : work ≡ run.work
-  pub within_work : run.work ≤ work_limit
-  pub within_depth : run.depth ≤ depth_limit
+  pub within_work : run.work ≤ limits.work
+  pub within_depth : run.depth ≤ limits.depth

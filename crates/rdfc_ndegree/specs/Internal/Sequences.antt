@@ -45,8 +45,11 @@ Advances old new false = Falls old × (new ≡ old)
 -- the last place whose number is below the next one
 abbrev pub IsPivot : List ℕ → Option ℕ → Type 0
 IsPivot xs None = Falls xs
-IsPivot xs (Some at) = (at + 1 < length xs) × (slice_index xs at < slice_index xs (at + 1)) × Falls (drop (at + 1) xs)
+IsPivot xs (Some at) =
+    (at + 1 < length xs) × (slice_index xs at < slice_index xs (at + 1)) × Falls (drop (at + 1) xs)
 
 -- the last place after the pivot whose number is above that of the pivot
 abbrev pub IsLastAbove : List ℕ → ℕ → ℕ → Type 0
-IsLastAbove xs pivot at = (pivot < at) × (at < length xs) × (slice_index xs pivot < slice_index xs at) × AllByRecursion (λ y. y ≤ slice_index xs pivot) (drop (at + 1) xs)
+IsLastAbove xs pivot at =
+    (pivot < at) × (at < length xs) × (slice_index xs pivot < slice_index xs at)
+    × AllByRecursion (λ y. y ≤ slice_index xs pivot) (drop (at + 1) xs)

@@ -1,4 +1,4 @@
-use Rattle.std.proofs.Common.{[], refl, sym, ◌∙◌, ap, subst}
+use Rattle.std.proofs.Common.{[], refl, sym, ◌∙◌, ap, subst, Contains}
 use Rattle.digest_mac.specs.Digests.{sha256_digits}
 use Rattle.nquads.specs.FirstDegree.{AreFirstHashes}
 use Rattle.rdfc_ndegree.specs.declared.limits.CanonFault.TheVariants as fault
@@ -28,13 +28,11 @@ returns-in_err-lines c = λ q is. fault-there q c.args.limits.now c.from_residua
 pub returns : goal.returns
 returns c = λ q is.
     let t = c.in_ok-table.ensures.table q [] is (subst (AreFirstHashes sha256_digits q) (sym c.as_slice.ensures.value) (c.in_ok-firsts.ensures.exact q is)) refl in
-    let a : Answered q c.as_slice.result.now c.in_ok-table.table c.args.quads.now c.args.limits.now.work c.args.limits.now.depth c.in_ok-labels.labels c.in_ok-lines.lines c.in_ok-numbered.numbered.tie c.in_ok-numbered.numbered.work = record {
+    is-canon {firsts = c.as_slice.result.now} {rows = c.in_ok-table.table} record {
       issuer = c.in_ok-numbered.numbered.canonical;
-      is = is;
       table = t;
       closed = c.run.ensures.closed;
       numbers = c.in_ok-numbered.ensures.ok;
       labels_are = c.in_ok-labels.ensures ∙ ap (all_labels c.in_ok-table.table []) c.as_slice-2.ensures.same;
-      lines_are = λ all. c.in_ok-lines.ensures q is all;
-    } in
-    is-canon a
+      lines_are = c.in_ok-lines.ensures q (λ s. (λ k. subst (λ ts. Contains ts s) is k, λ k. subst (λ ts. Contains ts s) (sym is) k));
+    }

@@ -3,7 +3,7 @@ use Rattle.std.proofs.lemmas.List.Elements.{All-nil}
 use Rattle.rdfc_ndegree.specs.NDegree.{path_part}
 use Rattle.rdfc_ndegree.proofs.Rows.{unnamed}
 use Rattle.rdfc_ndegree.proofs.Loops.{handed_on, is_none, member-start, member-rows, member-less, member-turn, member-fault, member-blocked, member-end, counting-start, group-turn, group-fault, group-end, arrangement-rows, arrangement-turn, arrangement-fault, arrangement-full, arrangement-end}
-use Rattle.rdfc_ndegree.proofs.Steps.{choosing-start}
+use Rattle.rdfc_ndegree.proofs.ProgressLaws.{choosing-start}
 use Rattle.rdfc_ndegree.specs.Table.{table_nodes}
 use Rattle.rdfc_ndegree.proofs.degree.+degree.Goals as goal
 

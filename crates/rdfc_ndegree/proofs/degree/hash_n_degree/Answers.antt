@@ -1,7 +1,7 @@
 use Rattle.std.proofs.Common.{◌≡◌}
 use Rattle.rdfc_ndegree.proofs.Rows.{row-listed}
 use Rattle.rdfc_ndegree.proofs.TableCarry.{table-lawful}
-use Rattle.rdfc_ndegree.proofs.Steps.{call-too_deep}
+use Rattle.rdfc_ndegree.proofs.ProgressLaws.{call-too_deep}
 use Rattle.rdfc_ndegree.proofs.degree.hash_n_degree.Goals as goal
 
 pub returns-then-depth-meter-clause-deep : goal.returns-then-depth-meter-clause-deep

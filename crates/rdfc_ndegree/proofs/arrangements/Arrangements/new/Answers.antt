@@ -1,5 +1,5 @@
 use Rattle.std.proofs.Common.{◌≡◌, rules}
-use Rattle.rdfc_ndegree.proofs.Stepping.{sorted-arrangements}
+use Rattle.rdfc_ndegree.proofs.NextSequence.{sorted-arrangements}
 use Rattle.rdfc_ndegree.proofs.arrangements.Arrangements.new.Goals as goal
 
 pub returns : goal.returns

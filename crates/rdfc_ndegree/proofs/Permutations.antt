@@ -189,10 +189,6 @@ Each-weaker P Q w (x ∷ xs) h = (w x h.0, Each-weaker P Q w xs h.1)
 
 -- ---- lists of mapped elements
 
-pub map-map : {X Y Z : Type 0} (g : Y → Z) (f : X → Y) (xs : List X) → map g (map f xs) ≡ map (λ x. g (f x)) xs
-map-map g f [] = refl
-map-map g f (x ∷ xs) = ap (λ l. g (f x) ∷ l) (map-map g f xs)
-
 pub map-agree : {X Y : Type 0} (P : X → Type 0) (f g : X → Y) → ((x : X) → P x → f x ≡ g x) → (xs : List X) → AllByRecursion P xs → map f xs ≡ map g xs
 map-agree P f g e [] h = refl
 map-agree P f g e (x ∷ xs) h = rw (e x h.0, map-agree P f g e xs h.1) refl

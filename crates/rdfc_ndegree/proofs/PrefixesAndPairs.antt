@@ -3,32 +3,22 @@ use Rattle.std.proofs.Common.{◌≡◌, ℕ, zero, suc, ◌+◌, ◌<◌, ◌�
 use Rattle.std.specs.Prelude.{◌==◌, ◌&&◌, Contains, bytes_eq, count_by}
 use Rattle.std.specs.List.{AllZip, list_any, starts_with}
 use Rattle.std.specs.List.Sorted.{IsPermutation}
-use Rattle.std.proofs.lemmas.Bool.{or_from, or_parts}
+use Rattle.std.proofs.lemmas.Bool.{or_from, or_parts, false_from_ne_true}
 use Rattle.std.proofs.lemmas.Bool.Decides.{nat_tests}
-use Rattle.std.proofs.lemmas.Slice.Eq.{bytes_eq-Decides}
 use Rattle.std.proofs.lemmas.List.Sums.{sum_by-cons}
 use Rattle.std.proofs.lemmas.List.Sorted.{IsPermutation-refl, IsPermutation-sym, IsPermutation-trans, IsPermutation-cons, IsPermutation-middle, Contains-permutation}
 use Rattle.base_types.specs.Order.{is_upto}
 use Rattle.base_types.specs.Sets.{SameElements, AllDiffer}
 use Rattle.base_types.proofs.Lists.{Contains-here, Contains-there, Contains-cons_cases, Contains-nil}
+use Rattle.base_types.proofs.Orders.{bytes_eq-true}
 
 -- ---- tests
-
-pub false_unless : (b : Bool) → (b ≡ true → ⊥) → b ≡ false
-false_unless true n = absurd (n refl)
-false_unless false n = refl
 
 pub same_tests : (a b : Bool) → (a ≡ false → b ≡ false) → (b ≡ false → a ≡ false) → a ≡ b
 same_tests true true f g = refl
 same_tests true false f g = g refl
 same_tests false true f g = sym (f refl)
 same_tests false false f g = refl
-
-pub bytes_eq-true : (xs ys : List ℕ) → bytes_eq xs ys ≡ true → xs ≡ ys
-bytes_eq-true xs ys e = (bytes_eq-Decides xs ys).0 e
-
-pub bytes_eq-same : (xs ys : List ℕ) → xs ≡ ys → bytes_eq xs ys ≡ true
-bytes_eq-same xs ys e = (bytes_eq-Decides xs ys).1 e
 
 -- ---- texts that begin with a text
 
@@ -66,10 +56,10 @@ one_side (x ∷ xs) (l ∷ ls) (y ∷ ys) [] n h k u = absurd (true≢false (sym
 one_side (x ∷ xs) (l ∷ ls) (y ∷ ys) (z ∷ zs) n h k u = grind (arith, nat_tests, one_side xs ls ys zs)
 
 pub begins-other : (xs least ys : List ℕ) → begins xs least ≡ false → begins xs ys ≡ true → bytes_eq ys least ≡ false
-begins-other xs least ys n h = false_unless (bytes_eq ys least) (λ e. true≢false (sym h ∙ ap (begins xs) (bytes_eq-true ys least e) ∙ n))
+begins-other xs least ys n h = false_from_ne_true (bytes_eq ys least) (λ e. true≢false (sym h ∙ ap (begins xs) (bytes_eq-true ys least e) ∙ n))
 
 pub begins-later : (xs least ys : List ℕ) → begins xs least ≡ false → begins xs ys ≡ true → begins ys least ≡ false
-begins-later xs least ys n h = false_unless (begins ys least) (λ e. true≢false (sym (begins-transitive xs ys least h e) ∙ n))
+begins-later xs least ys n h = false_from_ne_true (begins ys least) (λ e. true≢false (sym (begins-transitive xs ys least h e) ∙ n))
 
 -- ---- how many pass a test
 

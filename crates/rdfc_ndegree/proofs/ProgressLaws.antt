@@ -17,7 +17,7 @@ use Rattle.rdfc_ndegree.proofs.Progress.{spending_of, trail_after, Walking, Choo
 use Rattle.rdfc_ndegree.specs.declared.limits.Limits.{Limits}
 use Rattle.rdfc_ndegree.specs.declared.limits.CanonFault.{CanonFault}
 use Rattle.rdfc_ndegree.specs.declared.limits.CanonFault.TheVariants as fault
-use Rattle.rdfc_ndegree.proofs.Basics.{AllZip-append, AllZip-from_left}
+use Rattle.rdfc_ndegree.proofs.Membership.{AllZip-append, AllZip-from_left}
 use Rattle.rdfc_ndegree.proofs.Branching.{arrangements-some, arrangement-member}
 use Rattle.rdfc_ndegree.proofs.Grow.{call-fold, call-unfold}
 use Rattle.rdfc_ndegree.proofs.Exists.{IsNDegree-exists, nested-exists, evaluates-exists, trails-exist, IsChoice-from_trails, groups-exist}

@@ -14,13 +14,12 @@ use Rattle.std.proofs.lemmas.List.Sorted.{IsPermutation-refl, IsPermutation-sym,
 use Rattle.base_types.specs.Order.{is_upto, sorted_set}
 use Rattle.base_types.specs.Sets.{SameElements}
 use Rattle.base_types.proofs.Lists.{Contains-here, Contains-there, Contains-cons_cases, Contains-nil, Contains-map, Contains-from_map, strictly_sorted-unique, AllDiffer-strictly_sorted}
-use Rattle.base_types.proofs.Orders.{text_cmp, is_upto-cmp, by_cmp, is_upto-refl, is_upto-antisymmetric, is_upto-transitive}
+use Rattle.base_types.proofs.Orders.{text_cmp, is_upto-cmp, by_cmp, is_upto-refl, is_upto-antisymmetric, is_upto-transitive, less_upto}
 use Rattle.base_types.proofs.Rising.{rising-rises, rising-same}
 use Rattle.rdfc_ndegree.specs.NDegree.{AreArrangements}
-use Rattle.rdfc_ndegree.proofs.Basics.{Contains-filter, Contains-from_filter, Contains-flat_map, Contains-from_flat_map}
-use Rattle.rdfc_ndegree.proofs.CarryBasics.{Each-from_contains}
+use Rattle.rdfc_ndegree.proofs.Membership.{Contains-filter, Contains-from_filter, Contains-flat_map, Contains-from_flat_map}
+use Rattle.rdfc_ndegree.proofs.Permutations.{Each-from_contains}
 use Rattle.rdfc_ndegree.specs.Internal.Sequences.{put_everywhere, orders_of, left_from, Falls, IsStep, Advances}
-use Rattle.rdfc_ndegree.proofs.Grouping.{less-upto}
 
 -- ---- how often a number stands in a list
 
@@ -339,7 +338,7 @@ left-next p q alike less next = strictly_sorted-unique nat_list_cmp_total (left_
     moved = Alike-permutes p q alike
 
     below : AllByRecursion (λ r. text_cmp p r ≡ Less) (left_from false q)
-    below = Each-from_contains (λ r. text_cmp p r ≡ Less) (left_from false q) (λ r c. less-upto p q r less ((left-exact q r).0 c).1)
+    below = Each-from_contains (λ r. text_cmp p r ≡ Less) (left_from false q) (λ r c. less_upto p q r less ((left-exact q r).0 c).1)
 
     same : SameElements (left_from false p) (p ∷ left_from false q)
     same r = (
