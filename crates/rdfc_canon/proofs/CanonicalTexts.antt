@@ -1,5 +1,5 @@
 -- Canonical identifiers are labels that differ, so a canonical text is that of one dataset, up to blank nodes.
-use Rattle.std.proofs.Common.{◌≡◌, ◌↔◌, ℕ, ◌+◌, ◌-◌, ◌^◌, ◌<◌, ◌≤◌, ◌%◌, ◌/◌, ◌==◌, List, [], ◌∷◌, ◌++◌, length, All, Contains, Bool, true, false, codes, decimal, refl, sym, ap, ◌∙◌, subst, arith}
+use Rattle.std.proofs.Common.{◌≡◌, ◌↔◌, ℕ, ◌+◌, ◌-◌, ◌^◌, ◌<◌, ◌≤◌, ◌%◌, ◌/◌, ◌==◌, List, [], ◌∷◌, ◌++◌, length, All, Contains, Bool, true, false, codes, decimal, drop, refl, sym, ap, ◌∙◌, subst, arith}
 use Rattle.std.specs.List.{AllByRecursion}
 use Rattle.std.proofs.lemmas.Bool.{false≢true, false_from_ne_true}
 use Rattle.std.proofs.lemmas.Bool.Decides.{Decides-eqb, nat_tests}
@@ -14,7 +14,7 @@ use Rattle.nquads.proofs.ReadingElements.{All-from_contains}
 use Rattle.nquads.proofs.ReadingSame.{text_determines_dataset}
 use Rattle.rdfc_ndegree.specs.Issuers.{has, number, canonical_id}
 use Rattle.rdfc_ndegree.specs.Datasets.{nodes_of}
-use Rattle.rdfc_ndegree.specs.Run.{RunOutcome, IsRun, MeetsTie}
+use Rattle.rdfc_ndegree.specs.Run.{RunOutcome, IsRun, MeetsTie, IsCanonicalIssuer}
 use Rattle.rdfc_ndegree.proofs.Labels.{issuer-covers}
 use Rattle.rdfc_ndegree.proofs.Lawful.{nodes-lawful, blanks-all}
 use Rattle.rdfc_ndegree.proofs.Membership.{has-from_contains, number-below, number-once}
@@ -70,7 +70,7 @@ module _ (digest : List ℕ → List ℕ) (q : List Statement) (r : RunOutcome B
       (decimal_injective (number (nodes_of digest q) r.issuer a) (number (nodes_of digest q) r.issuer b) (small a k) (small b l) (after_prefix e))
     where
       after_prefix : {xs ys : List ℕ} → codes "c14n" ++ xs ≡ codes "c14n" ++ ys → xs ≡ ys
-      after_prefix e = ap tail (ap tail (ap tail (ap tail e)))
+      after_prefix e = ap (drop 4) e
 
 -- ---- one text, one dataset
 
@@ -83,8 +83,8 @@ text-same digest q p r s i j few few' d e is =
 pub same-text : (digest : List ℕ → List ℕ) (q p : List Statement) (r s : RunOutcome Blank) → IsDataset q → IsDataset p → IsRun (nodes_of digest q) r → IsRun (nodes_of digest p) s → r.tie ≡ false → Same q p
     → canonical_text (canonical_id (nodes_of digest q) r.issuer) q ≡ canonical_text (canonical_id (nodes_of digest p) s.issuer) p
 same-text digest q p r s i j d e none same =
-    let l = record { run = r; is_run = d; no_tie = none; is = refl } in
+    let l : IsCanonicalIssuer (nodes_of digest q) r.issuer = record { run = r; is_run = d; no_tie = none; is = refl } in
     let meets : s.tie ≡ true → ⊥ = λ t. false≢true (sym none ∙ (tie-exactly d).1 ((Same-MeetsTie digest q p same i j).1 ((tie-exactly e).0 t))) in
-    let m = record { run = s; is_run = e; no_tie = false_from_ne_true s.tie meets; is = refl } in
+    let m : IsCanonicalIssuer (nodes_of digest p) s.issuer = record { run = s; is_run = e; no_tie = false_from_ne_true s.tie meets; is = refl } in
     sym (Same-canonical_text digest q p same i j r.issuer l)
     ∙ ap (λ c. canonical_text (canonical_id (nodes_of digest p) c) p) (labels-unique (Same-HasLabels digest q p same i j r.issuer l) m)

@@ -10,7 +10,7 @@ use Rattle.rdfc_ndegree.specs.Internal.Nodes.{AreNodes}
 use Rattle.rdfc_ndegree.specs.Issuers.{has}
 use Rattle.rdfc_ndegree.specs.NDegree.{Outcome}
 use Rattle.rdfc_ndegree.proofs.Lack.{AreListed}
-use Rattle.rdfc_ndegree.specs.Answers.{answer, AnswersCall, CallOver, CallDeep}
+use Rattle.rdfc_ndegree.specs.Answers.{answer, Spending, AnswersCall, CallOver, CallDeep}
 use Rattle.rdfc_ndegree.specs.Internal.Evaluations.{IsFaultOf}
 use Rattle.rdfc_ndegree.specs.Run.{lacking, work_of, depth_of}
 use Rattle.rdfc_ndegree.specs.Table.{table_nodes}

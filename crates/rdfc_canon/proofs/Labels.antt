@@ -20,7 +20,7 @@ use Rattle.nquads.specs.Texts.{label, find_label, label_in, IsNamed, Names}
 use Rattle.nquads.specs.declared.labels.TextLabel.{TextLabel}
 use Rattle.nquads.proofs.ReadingBlanks.{same_blank-true, same_blank-itself, to_blanks_in}
 use Rattle.nquads.proofs.ReadingElements.{AllDiffer-head, All-from_contains}
-use Rattle.rdfc_first.proofs.MarkLemmas.{same_text}
+use Rattle.rdfc_first.proofs.MentionLines.{same_text}
 use Rattle.rdfc_ndegree.specs.Issuers.{has, canonical_id}
 use Rattle.rdfc_ndegree.specs.Table.{numbers_below}
 use Rattle.rdfc_ndegree.specs.TableOf.{IsRowOf, IsTableOf}

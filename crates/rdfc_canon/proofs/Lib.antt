@@ -5,5 +5,6 @@ pub mod Hashings
 pub mod Runs
 pub mod Labels
 pub mod CanonicalTexts
+pub mod WorkedRuns
 pub mod Answering
 pub mod Clauses

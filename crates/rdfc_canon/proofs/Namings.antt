@@ -14,7 +14,8 @@ use Rattle.rdfc_ndegree.specs.declared.table.NodeRow.{NodeRow}
 use Rattle.rdfc_ndegree.proofs.Permutations.{AllDiffer-permutation}
 use Rattle.rdfc_ndegree.proofs.Labels.{alone-differ}
 use Rattle.rdfc_ndegree.proofs.Tables.{absent-any}
-use Rattle.rdfc_ndegree.specs.NumberIssuers.{issue_number, issue_numbers}
+use Rattle.rdfc_ndegree.specs.NumberIssuers.{issue_number}
+use Rattle.rdfc_ndegree.specs.Internal.Issuing.{issue_numbers}
 use Rattle.rdfc_canon.specs.Internal.Numbering.{issue_paths, IsPathOf}
 
 module _ (rows : List NodeRow) where

@@ -21,7 +21,7 @@ use Rattle.rdfc_ndegree.proofs.Loops.{Counting, counting-start, counting-turn}
 use Rattle.rdfc_ndegree.proofs.Rows.{groups-rows}
 use Rattle.rdfc_ndegree.proofs.ProgressLaws.{same_fault}
 use Rattle.rdfc_canon.specs.Internal.Numbering.{AnswersRound, AnswersNumbers, HashesOver, HashesDeep}
-use Rattle.rdfc_ndegree.specs.NumberIssuers.{issue_numbers}
+use Rattle.rdfc_ndegree.specs.Internal.Issuing.{issue_numbers}
 use Rattle.rdfc_canon.proofs.Namings.{alone-named}
 use Rattle.base_types.proofs.Lists.{drop-next}
 use Rattle.rdfc_ndegree.proofs.Progress.{spending_of}

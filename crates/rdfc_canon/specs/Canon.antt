@@ -28,15 +28,16 @@ canonical_labels q c = map (λ b. label (blank_text b) (canonical_id (nodes q) c
 abbrev pub canonical_ids : ℕ → List (List ℕ)
 canonical_ids n = map (λ k. codes "c14n" ++ decimal k) (numbers_below n)
 
--- The labels name each blank node of the dataset once, and are c14n0, c14n1 and so on, in this order.
+-- The labels name each blank node of the dataset once, and are c14n0, c14n1 and so on, in this
+-- order.
 pub record NameAll (q : List Statement) (labels : List TextLabel) : Type 0 where
   pub each : (b : Blank)
       → StandsIn q b ↔ Contains (map (λ (l : TextLabel). l.blank) labels) (blank_text b)
   pub once : AllDiffer (map (λ (l : TextLabel). l.blank) labels)
   pub numbered : map (λ (l : TextLabel). l.text) labels ≡ canonical_ids (length labels)
 
--- The labels, the tie and the work are those of one run, neither its work nor its depth is over its limit,
--- and the lines are those of the dataset under its labels, in code-point order.
+-- The labels, the tie and the work are those of one run, neither its work nor its depth is over its
+-- limit, and the lines are those of the dataset under its labels, in code-point order.
 pub record AnswersRun (q : List Statement) (limits : Limits) (c : Canon) : Type 0 where
   pub run : RunOutcome Blank
   pub is_run : IsRun (nodes q) run

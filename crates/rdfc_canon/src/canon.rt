@@ -1,3 +1,4 @@
+//! The canonicalization of a dataset (RDF Dataset Canonicalization, 4.4).
 ghost use Rattle.std.specs.Prelude.{◌≡◌, ◌↔◌, ℕ, List, map, true, false, All, IfOk, IsErrOf, Err};
 ghost use Rattle.nquads.specs.Terms.{Blank, Statement, IsStatement};
 ghost use Rattle.nquads.specs.Lines.{canonical_lines};
@@ -40,7 +41,8 @@ pub fn canonicalise(alloc: Global, quads: &TextQuads, limits: &Limits) -> Result
         → IfOk result (λ c. AnswersRun q limits.now c) }
     // Each blank node has one label, and no two have the same.
     ensures labels { (q : List Statement) → quads.now ≡ map text_quad q → IfOk result (λ c. NameAll q c.labels) }
-    // A tie is reported exactly where a run meets one, and without one every run gives these labels.
+    // A tie is reported exactly where a run meets one, and without one every run gives these
+    // labels.
     ensures tie { (q : List Statement) → quads.now ≡ map text_quad q → IfOk result (λ c. (c.tie ≡ true) ↔ MeetsTie (nodes q)) }
     ensures every_run { (q : List Statement) → quads.now ≡ map text_quad q
         → IfOk result (λ c. c.tie ≡ false → (r : RunOutcome Blank) → IsRun (nodes q) r → c.labels ≡ canonical_labels q r.issuer) }
@@ -55,7 +57,8 @@ pub fn canonicalise(alloc: Global, quads: &TextQuads, limits: &Limits) -> Result
     canonical_form(alloc, quads, limits)
 }
 
-/// First-degree hashes, the table of the blank nodes, their canonical numbers, and then labels and lines.
+/// First-degree hashes, the table of the blank nodes, their canonical numbers, and then labels and
+/// lines.
 fn canonical_form(alloc: Global, quads: &TextQuads, limits: &Limits) -> Result<Canon, CanonFault>
     ensures { (q : List Statement) → quads.now ≡ map text_quad q → Canonicalised q limits.now result }
 {

@@ -1,12 +1,13 @@
 //! Laws of canonical labelling: each is the contract of a function that does nothing.
 
-ghost use Rattle.std.specs.Prelude.{◌≡◌, ◌↔◌, ◌≤◌, ◌^◌, ℕ, List, length, map, true, false, All, Contains, IsPermutation};
+ghost use Rattle.std.specs.Prelude.{◌≡◌, ◌↔◌, ◌≤◌, ◌^◌, ℕ, List, [], ◌∷◌, codes, length, map, true, false, All, Contains, IsPermutation};
 ghost use Rattle.base_types.specs.Sets.{AllDiffer};
 ghost use Rattle.nquads.specs.Terms.{Blank, IsDataset, IsStatement, Statement};
 ghost use Rattle.nquads.specs.Renaming.{Same, StandsIn, image};
 ghost use Rattle.nquads.specs.Lines.{canonical_text};
 ghost use Rattle.rdfc_ndegree.specs.Issuers.{canonical_id};
 ghost use Rattle.rdfc_ndegree.specs.Datasets.{nodes_of};
+ghost use Rattle.rdfc_canon.specs.Worked.{HasRun, edge, leaf};
 ghost use Rattle.rdfc_canon.specs.Canon.{DepthOver, IsCanonicalIssuer, IsRun, MeetsTie, RunOutcome, WorkOver};
 
 /// Every dataset has a run, whatever the digest is.
@@ -30,9 +31,9 @@ pub fn a_run_names_each_blank_node_once()
         → IsRun (nodes_of digest q) r → AllDiffer r.issuer }
 {}
 
-/// Labelling does not depend on the names of blank nodes: two datasets that are the same up to these meet
-/// ties alike, have the same work and depth over their runs, and without a tie the same labels and the
-/// same canonical text.
+/// Labelling does not depend on the names of blank nodes: two datasets that are the same up to
+/// these meet ties alike, have the same work and depth over their runs, and without a tie the same
+/// labels and the same canonical text.
 pub fn names_do_not_matter()
     ensures ties { (digest : List ℕ → List ℕ) (q p : List Statement) → Same q p → IsDataset q → IsDataset p
         → MeetsTie (nodes_of digest q) ↔ MeetsTie (nodes_of digest p) }
@@ -62,8 +63,9 @@ pub fn order_does_not_matter()
         → canonical_text (canonical_id (nodes_of digest q) c) q ≡ canonical_text (canonical_id (nodes_of digest p) d) p }
 {}
 
-/// Datasets with one canonical text are the same up to the names of blank nodes, whatever was taken first where a run
-/// meets a tie. Without a tie it is exactly these that have one text. (A label's number has 64 bits.)
+/// Datasets with one canonical text are the same up to the names of blank nodes, whatever was taken
+/// first where a run meets a tie. Without a tie it is exactly these that have one text. (A label's
+/// number has 64 bits.)
 pub fn one_text_is_of_one_dataset()
     ensures same { (digest : List ℕ → List ℕ) (q p : List Statement) (r s : RunOutcome Blank)
         → All IsStatement q → All IsStatement p → length r.issuer ≤ 2 ^ 64 → length s.issuer ≤ 2 ^ 64
@@ -77,4 +79,24 @@ pub fn one_text_is_of_one_dataset()
         → r.tie ≡ false
         → (canonical_text (canonical_id (nodes_of digest q) r.issuer) q
         ≡ canonical_text (canonical_id (nodes_of digest p) s.issuer) p) ↔ Same q p }
+{}
+
+/// Worked runs, with a digest that leaves a text as it is: no blank node; two with first-degree hashes
+/// of their own; two that nothing tells apart; two that point to each other; four in a row; three that
+/// all point to each other.
+pub fn worked_runs()
+    ensures nothing { HasRun ([]) ([]) false 0 0 }
+    ensures chain { HasRun (edge (codes "a") (codes "b") ∷ [])
+        (codes "a" ∷ codes "b" ∷ []) false 0 0 }
+    ensures twins { HasRun (leaf (codes "a") ∷ leaf (codes "b") ∷ [])
+        (codes "a" ∷ codes "b" ∷ []) true 0 1 }
+    ensures pair { HasRun (edge (codes "a") (codes "b") ∷ edge (codes "b") (codes "a") ∷ [])
+        (codes "a" ∷ codes "b" ∷ []) true 8 2 }
+    ensures row { HasRun (edge (codes "a") (codes "b") ∷ edge (codes "b") (codes "c") ∷
+            edge (codes "c") (codes "d") ∷ [])
+        (codes "a" ∷ codes "d" ∷ codes "b" ∷ codes "c" ∷ []) false 8 2 }
+    ensures triangle { HasRun (edge (codes "a") (codes "b") ∷ edge (codes "b") (codes "a") ∷
+            edge (codes "b") (codes "c") ∷ edge (codes "c") (codes "b") ∷
+            edge (codes "a") (codes "c") ∷ edge (codes "c") (codes "a") ∷ [])
+        (codes "a" ∷ codes "b" ∷ codes "c" ∷ []) true 60 2 }
 {}

@@ -2,7 +2,7 @@
 ghost use Rattle.std.specs.Prelude.{◌≡◌, map, OnOk};
 ghost use Rattle.rdfc_ndegree.specs.Table.{group_in};
 ghost use Rattle.rdfc_ndegree.specs.Run.{alone};
-ghost use Rattle.rdfc_ndegree.specs.NumberIssuers.{issue_numbers};
+ghost use Rattle.rdfc_ndegree.specs.Internal.Issuing.{issue_numbers};
 ghost use Rattle.rdfc_canon.specs.Internal.Numbering.{issue_paths};
 
 use rdfc_ndegree::{Canonical, Memory, NodeGroup, NodePath};
@@ -17,7 +17,8 @@ pub fn issue_nodes(canonical: &mut Canonical, nodes: &[usize]) -> Result<(), Mem
     Ok(())
 }
 
-/// The same for the nodes of the issuer of each result (RDF Dataset Canonicalization, 4.4.3, step 5.3).
+/// The same for the nodes of the issuer of each result (RDF Dataset Canonicalization, 4.4.3, step
+/// 5.3).
 pub fn issue_paths(canonical: &mut Canonical, paths: &[NodePath]) -> Result<(), Memory>
     ensures { OnOk result (canonical.new ≡ issue_paths canonical.old paths.now) }
 {

@@ -10,8 +10,8 @@ use crate::rounds::round;
 use rdfc_ndegree::{CanonFault, Canonical, Limits, Meter, NodeTable, first_groups};
 use std::alloc::Global;
 
-/// The canonical numbers of the nodes of a table, whether they depend on the order of equals, and how many
-/// arrangements were evaluated.
+/// The canonical numbers of the nodes of a table, whether they depend on the order of equals, and
+/// how many arrangements were evaluated.
 #[derive(Debug, Drop)]
 pub struct CanonicalNumbers {
     pub canonical: Canonical,

@@ -1,4 +1,4 @@
-//! Labels of the nodes of a table that have canonical numbers (RDF Dataset Canonicalization, 4.4.3, step 6).
+//! Labels from canonical numbers (RDF Dataset Canonicalization, 4.4.3, step 6).
 ghost use Rattle.std.specs.Prelude.{◌≡◌, [], ◌++◌, slice_get, codes, decimal, IfOk, OnOk};
 ghost use Rattle.rdfc_canon.specs.Internal.Labelling.{all_labels, with_label};
 

@@ -1,4 +1,4 @@
-//! One group of nodes that have one first-degree hash (RDF Dataset Canonicalization, 4.4.3, step 5).
+//! One group of one first-degree hash (RDF Dataset Canonicalization, 4.4.3, step 5).
 ghost use Rattle.std.specs.Prelude.{◌≡◌, ◌<◌, ◌≤◌, ◌++◌, ◌∷◌, [], All, length, map, IfOk, IfErr};
 ghost use Rattle.rdfc_ndegree.specs.Internal.Evaluations.{IsFaultOf};
 ghost use Rattle.rdfc_ndegree.specs.Answers.{spending};
@@ -12,8 +12,8 @@ use rdfc_ndegree::{
 };
 use std::alloc::Global;
 
-/// Hashes each member that has no canonical number, and gives numbers in the order of the hashes. Whether
-/// two members have one hash, or one met a tie that counts.
+/// Hashes each member that has no canonical number, and gives numbers in the order of the hashes.
+/// Whether two members have one hash, or one met a tie that counts.
 ///
 /// Errors: those of `hash_n_degree`.
 pub fn round(
@@ -47,8 +47,8 @@ pub fn round(
     Ok(tie)
 }
 
-/// The n-degree hash of each member without canonical number, each with a new issuer that has named it
-/// alone.
+/// The n-degree hash of each member without canonical number, each with a new issuer that has named
+/// it alone.
 fn hash_members(
     alloc: Global,
     table: &NodeTable,

@@ -1,5 +1,4 @@
-//! Worked datasets. Lines, labels, work and depth come from two other programs, one that follows the standard step by
-//! step and one that evaluates every arrangement to its end; so do those of the renamed datasets.
+//! Worked datasets, within exactly their limits, renamed and reordered.
 use crate::{Canon, CanonFault, Limits, canonicalise};
 use nquads::{Text, TextQuad, TextQuads};
 use rdfc_ndegree::Memory;
@@ -8,7 +7,8 @@ use std::alloc::Global;
 /// Subject, predicate, object, and the graph, or the empty text for the default graph.
 type Row = (&'static str, &'static str, &'static str, &'static str);
 
-/// A dataset with its canonical lines, its blank nodes in the order of their labels, and what a run meets and takes.
+/// A dataset with its canonical lines, its blank nodes in the order of their labels, and what a run
+/// meets and takes.
 struct Case {
     name: &'static str,
     rows: &'static [Row],
@@ -42,6 +42,8 @@ const NAMES: [[&str; 10]; 3] = [
     ],
 ];
 
+// Lines, order, work and depth come from two other programs: one follows the standard step by step,
+// the other evaluates every arrangement to its end. They give the same for the renamed datasets.
 const CASES: [Case; 17] = [
     Case {
         name: "no statement",
@@ -420,7 +422,8 @@ fn is_refused(answer: Result<Canon, CanonFault>, fault: CanonFault) -> bool {
     }
 }
 
-// Each dataset within exactly its limits, under each of the names. Which of two equals comes first is free.
+// Each dataset within exactly its limits, under each of the names. Which of two equals comes first
+// is free.
 #[test]
 fn worked_datasets(rt: HostRuntime) -> Result<(), CanonFault> {
     for case in &CASES {

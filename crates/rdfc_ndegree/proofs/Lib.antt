@@ -7,11 +7,9 @@ pub mod Grow
 pub mod Exists
 pub mod Labels
 pub mod Lawful
-pub mod Examples
 pub mod PrefixesAndPairs
 pub mod Agree
 pub mod RunAgree
-pub mod Ties
 pub mod Permutations
 pub mod Carry
 pub mod RunCarry

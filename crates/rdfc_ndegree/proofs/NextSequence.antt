@@ -19,7 +19,8 @@ use Rattle.base_types.proofs.Rising.{rising-rises, rising-same}
 use Rattle.rdfc_ndegree.specs.NDegree.{AreArrangements}
 use Rattle.rdfc_ndegree.proofs.Membership.{Contains-filter, Contains-from_filter, Contains-flat_map, Contains-from_flat_map}
 use Rattle.rdfc_ndegree.proofs.Permutations.{Each-from_contains}
-use Rattle.rdfc_ndegree.specs.Internal.Sequences.{put_everywhere, orders_of, left_from, Falls, IsStep, Advances}
+use Rattle.rdfc_ndegree.specs.Sequences.{put_everywhere, orders_of, left_from}
+use Rattle.rdfc_ndegree.specs.Internal.Sequences.{Falls, IsStep, Advances}
 
 -- ---- how often a number stands in a list
 

@@ -21,7 +21,7 @@ use Rattle.rdfc_ndegree.specs.TableOf.{IsRowOf, IsTableOf, IsTableWith}
 use Rattle.rdfc_ndegree.specs.Answers.{answer, AnswersCall, CallOver, CallDeep}
 use Rattle.rdfc_ndegree.specs.Table.{number_among, names_of}
 use Rattle.rdfc_ndegree.specs.Requests.{call_texts, IsSpelledCall}
-use Rattle.rdfc_ndegree.specs.NumberIssuers.{issue_numbers}
+use Rattle.rdfc_ndegree.specs.Internal.Issuing.{issue_numbers}
 use Rattle.rdfc_ndegree.specs.Internal.Building.{name_at}
 use Rattle.rdfc_ndegree.specs.declared.table.NodeRow.{NodeRow}
 use Rattle.rdfc_ndegree.proofs.Carry.{outcome_f, IsNDegree-carried, IsNDegree-inside}

@@ -13,7 +13,8 @@ pub record Answer (B : Type 0) : Type 0 where
 abbrev pub answer : {B : Type 0} → List ℕ → List B → Bool → Answer B
 answer hash issuer tie = record { hash = hash; issuer = issuer; tie = tie }
 
--- The arrangements counted before and after, the number of calls that are open, and the limit of these.
+-- The arrangements counted before and after, the number of calls that are open, and the limit of
+-- these.
 pub record Spending : Type 0 where
   pub before : ℕ
   pub after : ℕ
@@ -25,8 +26,9 @@ abbrev pub spending : Meter → Meter → ℕ → Spending
 spending old new depth =
     record { before = old.spent; after = new.spent; depth = depth; limit = old.limits.depth }
 
--- The answer is that of one run of the call for n with the canonical issuer c and the issuer i, the count has
--- risen by exactly its arrangements, and its depth keeps the limit. The call itself is counted in `depth`.
+-- The answer is that of one run of the call for n with the canonical issuer c and the issuer i, the
+-- count has risen by exactly its arrangements, and its depth keeps the limit. The call itself is
+-- counted in `depth`.
 pub record AnswersCall {B : Type 0} (v : Nodes B) (c : List B) (n : B) (i : List B) (a : Answer B)
     (s : Spending) : Type 0 where
   pub outcome : Outcome B

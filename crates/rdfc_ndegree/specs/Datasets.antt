@@ -1,4 +1,5 @@
--- The blank nodes of a dataset, as labelling looks at them. RDF Canonicalization, 4.4.3, steps 1 and 2, and 4.8.3, step 3.
+-- The blank nodes of a dataset, as labelling looks at them. RDF Canonicalization, 4.4.3, steps 1
+-- and 2, and 4.8.3, step 3.
 use Rattle.std.specs.Prelude.{ℕ, List, ◌++◌, not, map, filter, flat_map}
 use Rattle.nquads.specs.Terms.{Blank, Statement}
 use Rattle.nquads.specs.Renaming.{same_blank, blanks_of_term, blanks_of_graph}

@@ -21,6 +21,7 @@ canonical_id v c n = codes "c14n" ++ decimal (number v c n)
 abbrev pub temporary_id : {B : Type 0} → Nodes B → List B → B → List ℕ
 temporary_id v i n = codes "b" ++ decimal (number v i n)
 
--- the issuer after naming a node; one that is named already keeps its number. -- RDF Canonicalization, 4.5
+-- the issuer after naming a node; one that is named already keeps its number. -- RDF
+-- Canonicalization, 4.5
 abbrev pub issue : {B : Type 0} → Nodes B → List B → B → List B
 issue v i n = if has v i n then i else i ++ n ∷ []

@@ -5,6 +5,7 @@ pub mod NDegree
 pub mod Run
 pub mod Datasets
 pub mod NumberIssuers
+pub mod Sequences
 pub mod Table
 pub mod TableOf
 pub mod Answers

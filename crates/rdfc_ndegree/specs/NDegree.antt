@@ -1,5 +1,6 @@
--- N-degree hashing as a relation: every arrangement of a group is evaluated, and any with the least path
--- may be chosen. RDF Canonicalization, 4.8, Hash N-Degree Quads. Ties, work and depth are this project's.
+-- N-degree hashing as a relation: every arrangement of a group is evaluated, and any with the least
+-- path may be chosen. RDF Canonicalization, 4.8, Hash N-Degree Quads. Ties, work and depth are this
+-- project's.
 use Rattle.std.specs.Prelude.{◌≡◌, ◌+◌, ℕ, zero, suc, max, List, [], ◌∷◌, ◌++◌, Bool, true, false, ◌||◌, ◌==◌, nat_lt, All, Contains, count_by, bytes_eq, codes, if◌then◌else◌, IsPermutation}
 use Rattle.std.specs.List.{AllZip, list_any, starts_with}
 use Rattle.base_types.specs.Order.{is_upto}
@@ -8,8 +9,8 @@ use Rattle.rdfc_ndegree.specs.Nodes.{Nodes}
 use Rattle.rdfc_ndegree.specs.Issuers.{has, canonical_id, temporary_id, issue}
 use Rattle.rdfc_ndegree.specs.Groups.{Group, related_groups}
 
--- What an n-degree call gives: the hash and the issuer; and whether it met a tie that counts, how many
--- arrangements were evaluated, and the most calls that were open at once.
+-- What an n-degree call gives: the hash and the issuer; and whether it met a tie that counts, how
+-- many arrangements were evaluated, and the most calls that were open at once.
 pub record Outcome (B : Type 0) : Type 0 where
   pub hash : List ℕ
   pub issuer : List B
@@ -17,8 +18,8 @@ pub record Outcome (B : Type 0) : Type 0 where
   pub work : ℕ
   pub depth : ℕ
 
--- What one arrangement gives. `ties` has, for each nested call that met a tie, the path as it stood before
--- that call's part.
+-- What one arrangement gives. `ties` has, for each nested call that met a tie, the path as it stood
+-- before that call's part.
 pub record Trail (B : Type 0) : Type 0 where
   pub path : List ℕ
   pub issuer : List B
@@ -40,7 +41,8 @@ Calls B = B → List B → Outcome B → Type 0
 
 -- ---- One arrangement. RDF Canonicalization, 4.8.3, step 5.4
 
--- the issuer after a member: it issues an identifier for one that has neither a canonical nor a temporary one
+-- the issuer after a member: it issues an identifier for one that has neither a canonical nor a
+-- temporary one
 abbrev pub issue_temporary : {B : Type 0} → Nodes B → List B → List B → B → List B
 issue_temporary v c i m = if has v c m then i else issue v i m
 
@@ -49,8 +51,8 @@ abbrev pub identifier : {B : Type 0} → Nodes B → List B → List B → B →
 identifier v c i m =
     codes "_:" ++ (if has v c m then canonical_id v c m else temporary_id v i m)
 
--- The issuer copy after all members, the path that they give, and the recursion list: those of them that were named
--- here, in order. RDF Canonicalization, 4.8.3, step 5.4.4
+-- The issuer copy after all members, the path that they give, and the recursion list: those of them
+-- that were named here, in order. RDF Canonicalization, 4.8.3, step 5.4.4
 abbrev pub issuer_copy : {B : Type 0} → Nodes B → List B → List B → List B → List B
 issuer_copy v c i [] = i
 issuer_copy v c i (m ∷ ms) = issuer_copy v c (issue_temporary v c i m) ms
@@ -66,8 +68,8 @@ recursion_list v c i (m ∷ ms) =
     if has v c m || has v i m then recursion_list v c i ms
     else m ∷ recursion_list v c (issue_temporary v c i m) ms
 
--- What a nested call adds to the path: `_:` and the member's temporary identifier, and the hash in angle brackets.
--- RDF Canonicalization, 4.8.3, steps 5.4.5.2 and 5.4.5.3
+-- What a nested call adds to the path: `_:` and the member's temporary identifier, and the hash in
+-- angle brackets. RDF Canonicalization, 4.8.3, steps 5.4.5.2 and 5.4.5.3
 abbrev pub path_part : {B : Type 0} → Nodes B → List B → B → List ℕ → List ℕ
 path_part v i m hash =
     codes "_:" ++ (temporary_id v i m ++ (codes "<" ++ (hash ++ codes ">")))
@@ -120,8 +122,8 @@ pub record AreArrangements {B : Type 0} (members : List B) (ps : List (List B)) 
 abbrev pub counts : List ℕ → List (List ℕ) → Bool
 counts least ties = list_any (λ before. starts_with ◌==◌ least before) ties
 
--- A group meets a tie where two of its arrangements have the least path, or where a nested tie of any of
--- its arrangements counts.
+-- A group meets a tie where two of its arrangements have the least path, or where a nested tie of
+-- any of its arrangements counts.
 abbrev pub meets_tie : {B : Type 0} → List ℕ → List (Trail B) → Bool
 meets_tie least ts =
     nat_lt 1 (count_by (λ t. bytes_eq t.path least) ts) || list_any (λ t. counts least t.ties) ts
@@ -159,7 +161,8 @@ pub record IsChoice {B : Type 0} (evaluates : List B → Trail B → Type 0) (me
 
 -- ---- One call. RDF Canonicalization, 4.8.3
 
--- the outcome where no group is left: the digest of the data. -- RDF Canonicalization, 4.8.3, step 6
+-- the outcome where no group is left: the digest of the data. -- RDF Canonicalization, 4.8.3, step
+-- 6
 abbrev pub outcome_end : {B : Type 0} → Nodes B → List ℕ → List B → Outcome B
 outcome_end v text i =
     record { hash = v.digest text; issuer = i; tie = false; work = 0; depth = 0 }
@@ -175,18 +178,19 @@ outcome_more x o = record {
 }
 
 -- one group's choice with what may follow it
-pub record Chooses {B : Type 0} (chooses : Choice B → Type 0) (follows : Choice B → Outcome B → Type 0)
-    (o : Outcome B) : Type 0 where
+pub record Chooses {B : Type 0} (chooses : Choice B → Type 0)
+    (follows : Choice B → Outcome B → Type 0) (o : Outcome B) : Type 0 where
   pub choice : Choice B
   pub rest : Outcome B
   pub is_choice : chooses choice
   pub goes_on : follows choice rest
   pub is : o ≡ outcome_more choice rest
 
--- The groups in hash order, each with the issuer that was chosen in the one before. The group's hash and
--- the chosen path go to the data. RDF Canonicalization, 4.8.3, steps 5.1, 5.5 and 5.6
+-- The groups in hash order, each with the issuer that was chosen in the one before. The group's
+-- hash and the chosen path go to the data. RDF Canonicalization, 4.8.3, steps 5.1, 5.5 and 5.6
 abbrev pub InGroups :
-    {B : Type 0} → Nodes B → Calls B → List B → List ℕ → List B → List (Group B) → Outcome B → Type 0
+    {B : Type 0} → Nodes B → Calls B → List B → List ℕ → List B → List (Group B) → Outcome B
+    → Type 0
 InGroups v calls c text i [] o = o ≡ outcome_end v text i
 InGroups v calls c text i (g ∷ gs) o =
     Chooses (IsChoice (Evaluates v calls c i) g.members)

@@ -1,7 +1,7 @@
 -- What labelling looks at in a dataset: its blank nodes, and where each stands beside others. It is
--- written over any kind of node that can be compared, so that one definition serves the blank nodes of
--- a dataset and the numbers by which the program keeps them.
--- RDF Canonicalization, 4.3, canonicalization state, and 4.4.3, steps 1 and 2.
+-- written over any kind of node that can be compared, so that one definition serves the blank nodes
+-- of a dataset and the numbers by which the program keeps them. RDF Canonicalization, 4.3,
+-- canonicalization state, and 4.4.3, steps 1 and 2.
 use Rattle.std.specs.Prelude.{ℕ, List, Bool}
 use Rattle.rdfc_ndegree.specs.declared.table.Position.{Position}
 

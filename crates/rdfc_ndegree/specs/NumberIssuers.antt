@@ -1,4 +1,5 @@
--- An identifier issuer over numbers: the numbers that it has named, in order. RDF Canonicalization, 4.3 and 4.5.
+-- An identifier issuer over numbers: the numbers that it has named, in order. RDF Canonicalization,
+-- 4.3 and 4.5.
 use Rattle.std.specs.Prelude.{◌≡◌, ◌==◌, ◌+◌, ◌++◌, ℕ, List, [], ◌∷◌, Option, Some, None, if◌then◌else◌, slice_get}
 use Rattle.std.specs.List.{list_any}
 use Rattle.base_types.specs.Sets.{AllDiffer}
@@ -12,14 +13,10 @@ number_in (m ∷ ms) n = if m == n then 0 else 1 + number_in ms n
 abbrev pub place_in : List ℕ → ℕ → Option ℕ
 place_in order n = if list_any (λ m. m == n) order then Some (number_in order n) else None
 
--- the issuer after naming a number; one that is named already keeps its place. -- RDF Canonicalization, 4.5
+-- the issuer after naming a number; one that is named already keeps its place. -- RDF
+-- Canonicalization, 4.5
 abbrev pub issue_number : List ℕ → ℕ → List ℕ
 issue_number order n = if list_any (λ m. m == n) order then order else order ++ n ∷ []
-
--- the issuer after naming these numbers, in order
-abbrev pub issue_numbers : List ℕ → List ℕ → List ℕ
-issue_numbers order [] = order
-issue_numbers order (n ∷ ns) = issue_numbers (issue_number order n) ns
 
 -- what stands at a number, and nothing past the end
 abbrev pub place_at : Option (Option ℕ) → Option ℕ

@@ -8,8 +8,8 @@ use Rattle.nquads.specs.FirstDegree.{AreFirstHashes}
 use Rattle.nquads.specs.declared.quads.TextQuad.{TextQuad}
 use Rattle.nquads.specs.declared.hashes.BlankHash.{BlankHash}
 
--- What a call for a blank node is given: the statements, the first-degree hashes, and the texts of the canonical
--- issuer, of the node and of the issuer with which the call begins.
+-- What a call for a blank node is given: the statements, the first-degree hashes, and the texts of
+-- the canonical issuer, of the node and of the issuer with which the call begins.
 pub record CallTexts : Type 0 where
   pub quads : List TextQuad
   pub firsts : List BlankHash
@@ -22,9 +22,10 @@ abbrev pub call_texts :
 call_texts quads firsts canonical node issuer =
     record { quads = quads; firsts = firsts; canonical = canonical; node = node; issuer = issuer }
 
--- The texts are those of a call for the node n over the dataset q, with the canonical issuer c, which names no node
--- twice, and the issuer i.
-pub record IsSpelledCall (q : List Statement) (n : Blank) (c i : List Blank) (t : CallTexts) : Type 0 where
+-- The texts are those of a call for the node n over the dataset q, with the canonical issuer c,
+-- which names no node twice, and the issuer i.
+pub record IsSpelledCall (q : List Statement) (n : Blank) (c i : List Blank) (t : CallTexts)
+    : Type 0 where
   pub quads_are : t.quads ≡ map text_quad q
   pub hashes : AreFirstHashes sha256_digits q t.firsts
   pub node_is : t.node ≡ blank_text n

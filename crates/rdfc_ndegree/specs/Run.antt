@@ -1,4 +1,5 @@
--- Runs of the canonicalization algorithm, ties, work and depth. RDF Canonicalization, 4.4.3, steps 3 to 5.
+-- Runs of the canonicalization algorithm, ties, work and depth. RDF Canonicalization, 4.4.3, steps
+-- 3 to 5.
 use Rattle.std.specs.Prelude.{◌≡◌, ◌<◌, ◌≤◌, ◌+◌, ℕ, max, List, [], ◌∷◌, ◌++◌, Bool, true, false, not, ◌||◌, filter, map, All, bytes_eq, IsPermutation}
 use Rattle.std.specs.List.{AllZip, list_any}
 use Rattle.base_types.specs.Order.{is_upto}
@@ -11,7 +12,8 @@ use Rattle.rdfc_ndegree.specs.NDegree.{Outcome, IsNDegree}
 abbrev pub with_first_hash : {B : Type 0} → Nodes B → B → NodeHash B
 with_first_hash v n = record { hash = v.first n; node = n }
 
--- the nodes grouped by first-degree hash, the groups in hash order. -- RDF Canonicalization, 4.4.3, steps 3 and 4
+-- the nodes grouped by first-degree hash, the groups in hash order. -- RDF Canonicalization, 4.4.3,
+-- steps 3 and 4
 abbrev pub first_groups : {B : Type 0} → Nodes B → List (Group B)
 first_groups v = groups_by_hash (map (with_first_hash v) v.all)
 
@@ -21,8 +23,8 @@ if_alone [] = []
 if_alone (n ∷ []) = n ∷ []
 if_alone (n ∷ m ∷ ns) = []
 
--- the nodes with a first-degree hash of their own, in hash order: they get the first canonical identifiers.
--- -- RDF Canonicalization, 4.4.3, step 4
+-- the nodes with a first-degree hash of their own, in hash order: they get the first canonical
+-- identifiers. RDF Canonicalization, 4.4.3, step 4
 abbrev pub alone : {B : Type 0} → List (Group B) → List B
 alone [] = []
 alone (g ∷ gs) = if_alone g.members ++ alone gs
@@ -31,8 +33,8 @@ alone (g ∷ gs) = if_alone g.members ++ alone gs
 abbrev pub lacking : {B : Type 0} → Nodes B → List B → List B → List B
 lacking v c ns = filter (λ n. not (has v c n)) ns
 
--- the canonical issuer after naming the nodes of an issuer in its order, and after all of a group's issuers.
--- -- RDF Canonicalization, 4.4.3, step 5.3
+-- the canonical issuer after naming the nodes of an issuer in its order, and after all of a group's
+-- issuers. RDF Canonicalization, 4.4.3, step 5.3
 abbrev pub take_issuer : {B : Type 0} → Nodes B → List B → List B → List B
 take_issuer v c [] = c
 take_issuer v c (n ∷ ns) = take_issuer v (issue v c n) ns
@@ -59,8 +61,8 @@ abbrev pub depth_of : {B : Type 0} → List (Outcome B) → ℕ
 depth_of [] = 0
 depth_of (o ∷ os) = max o.depth (depth_of os)
 
--- What a run gives: the canonical issuer, in which a node's number is its place; whether a tie was met; the
--- arrangements evaluated; and the most n-degree calls that were open at once.
+-- What a run gives: the canonical issuer, in which a node's number is its place; whether a tie was
+-- met; the arrangements evaluated; and the most n-degree calls that were open at once.
 pub record RunOutcome (B : Type 0) : Type 0 where
   pub issuer : List B
   pub tie : Bool
@@ -78,9 +80,9 @@ run_more os r = record {
   depth = max (depth_of os) r.depth;
 }
 
--- One group of one first-degree hash: each member without canonical identifier is hashed with a new issuer
--- that has named it alone, and the results are taken in hash order, equals in any.
--- RDF Canonicalization, 4.4.3, step 5
+-- One group of one first-degree hash: each member without canonical identifier is hashed with a new
+-- issuer that has named it alone, and the results are taken in hash order, equals in any. RDF
+-- Canonicalization, 4.4.3, step 5
 pub record Round {B : Type 0} (v : Nodes B) (c : List B) (members : List B)
     (follows : List B → RunOutcome B → Type 0) (r : RunOutcome B) : Type 0 where
   pub outcomes : List (Outcome B)
@@ -96,8 +98,8 @@ abbrev pub Rounds : {B : Type 0} → Nodes B → List B → List (Group B) → R
 Rounds v c [] r = r ≡ run_end c
 Rounds v c (g ∷ gs) r = Round v c g.members (λ d rest. Rounds v d gs rest) r
 
--- A run: the nodes with a hash of their own are named first, then the groups are taken in hash order. (A
--- group of one has nobody left to name.) -- RDF Canonicalization, 4.4.3
+-- A run: the nodes with a hash of their own are named first, then the groups are taken in hash
+-- order. (A group of one has nobody left to name.) -- RDF Canonicalization, 4.4.3
 pub record IsRun {B : Type 0} (v : Nodes B) (r : RunOutcome B) : Type 0 where
   pub rounds : Rounds v (alone (first_groups v)) (first_groups v) r
 

@@ -39,7 +39,8 @@ table_nodes rows = record {
 
 -- each related node is a row of the table
 abbrev pub IsClosed : List NodeRow → Type 0
-IsClosed rows = All (λ (row : NodeRow). All (λ (r : Related). r.node < length rows) row.related) rows
+IsClosed rows =
+    All (λ (row : NodeRow). All (λ (r : Related). r.node < length rows) row.related) rows
 
 -- the number of a text: its position among the texts, from 0
 abbrev pub number_among : List (List ℕ) → List ℕ → Option ℕ

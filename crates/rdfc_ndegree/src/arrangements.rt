@@ -1,3 +1,4 @@
+//! The arrangements of a group, one after another (RDF Dataset Canonicalization, 4.8.3, step 5.4).
 ghost use Rattle.std.specs.Prelude.{◌≡◌, ◌∷◌, [], IfOk, IfSome, IsNone, OnErr, IsPermutation};
 ghost use Rattle.rdfc_ndegree.specs.NDegree.{AreArrangements};
 ghost use Rattle.rdfc_ndegree.specs.Internal.Sequences.{Advances, IsPivot, IsLastAbove};
@@ -6,8 +7,8 @@ use base_types::{Memory, Sequence};
 use std::alloc::Global;
 use std::marker::Model;
 
-/// The distinct sequences of a group's members in lexicographic order, one at a time. Contracts see those
-/// that are left.
+/// The distinct sequences of a group's members in lexicographic order, one at a time. Contracts see
+/// those that are left.
 #[derive(Debug, Drop)]
 pub struct Arrangements {
     next: Vec<usize>,
@@ -16,7 +17,7 @@ pub struct Arrangements {
 
 impl Model for Arrangements {
     ghost use Rattle.std.specs.Prelude.{List, ℕ};
-    ghost use Rattle.rdfc_ndegree.specs.Internal.Sequences.{left_from};
+    ghost use Rattle.rdfc_ndegree.specs.Sequences.{left_from};
 
     ghost Value = { List (List ℕ) };
 
@@ -59,7 +60,8 @@ impl Arrangements {
     }
 }
 
-/// Steps to the next sequence of the same numbers in lexicographic order. `false`: this is the last one.
+/// Steps to the next sequence of the same numbers in lexicographic order. `false`: this is the last
+/// one.
 fn advance(numbers: &mut [usize]) -> bool
     ensures { Advances numbers.old numbers.new result }
 {
@@ -87,7 +89,8 @@ fn pivot_of(numbers: &[usize]) -> Option<usize>
     None
 }
 
-/// The last place after `pivot` whose number is above that at `pivot`. The number at the place after `pivot` is.
+/// The last place after `pivot` whose number is above that at `pivot`. The number at the place
+/// after `pivot` is.
 #[tactic(auto, using(crate::proofs::Pivots::lasts))]
 fn last_above(numbers: &[usize], pivot: usize) -> usize
     requires { IsPivot numbers.now (Some pivot) }

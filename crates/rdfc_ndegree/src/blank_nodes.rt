@@ -11,7 +11,7 @@ ghost use Rattle.rdfc_ndegree.specs.Datasets.{nodes_of};
 ghost use Rattle.rdfc_ndegree.specs.Answers.{AnswersCall, CallDeep, CallOver, answer, spending};
 ghost use Rattle.rdfc_ndegree.specs.Table.{names_of, number_among};
 ghost use Rattle.rdfc_ndegree.specs.Requests.{IsSpelledCall, call_texts};
-ghost use Rattle.rdfc_ndegree.specs.NumberIssuers.{issue_numbers};
+ghost use Rattle.rdfc_ndegree.specs.Internal.Issuing.{issue_numbers};
 ghost use Rattle.rdfc_ndegree.specs.Internal.Building.{name_at};
 
 use crate::building::node_table;
@@ -23,16 +23,17 @@ use base_types::{Memory, Sequence, Text};
 use nquads::{BlankHash, TextQuads};
 use std::alloc::Global;
 
-/// The n-degree hash of a blank node (RDF Dataset Canonicalization, 4.8, Hash N-Degree Quads). `firsts`
-/// names each blank node of the dataset once, with its first-degree hash; `canonical` is the canonical
-/// issuer, which names no node twice, `issuer` the one with which the call begins, and `depth` the number of
-/// calls that are open, this one counted. Each arrangement that is evaluated adds one to what `meter` has
-/// spent. The node and those of the issuers may stand in no statement: then they have no related nodes.
+/// The n-degree hash of a blank node (RDF Dataset Canonicalization, 4.8, Hash N-Degree Quads).
+/// `firsts` names each blank node of the dataset once, with its first-degree hash; `canonical` is
+/// the canonical issuer, which names no node twice, `issuer` the one with which the call begins,
+/// and `depth` the number of calls that are open, this one counted. Each arrangement that is
+/// evaluated adds one to what `meter` has spent. The node and those of the issuers may stand in no
+/// statement: then they have no related nodes.
 ///
 /// # Errors
 ///
-/// `TooMuchWork`, `TooDeep`: more arrangements would be evaluated, or more calls be open, than this limit
-/// of the meter allows. `Memory`: there is no memory for the search.
+/// `TooMuchWork`, `TooDeep`: more arrangements would be evaluated, or more calls be open, than this
+/// limit of the meter allows. `Memory`: there is no memory for the search.
 pub fn n_degree(
     alloc: Global,
     quads: &TextQuads,
@@ -45,18 +46,26 @@ pub fn n_degree(
 ) -> Result<Path, CanonFault>
     ensures limits { meter.new.limits ≡ meter.old.limits }
     ensures rises { meter.old.spent ≤ meter.new.spent }
-    ensures kept { meter.old.spent ≤ meter.old.limits.work → IfOk result (λ _. meter.new.spent ≤ meter.old.limits.work) }
+    ensures kept { meter.old.spent ≤ meter.old.limits.work
+        → IfOk result (λ _. meter.new.spent ≤ meter.old.limits.work) }
     ensures ok { (q : List Statement) (n : Blank) (c i : List Blank)
-        → IsSpelledCall q n c i (call_texts quads.now firsts.now canonical.now.order node.now issuer.order)
-        → IfOk result (λ p. (j : List Blank) × (p.issuer.order ≡ map blank_text j) × AnswersCall (nodes_of sha256_digits q) c n i (answer p.hash j p.tie) (spending meter.old meter.new depth)) }
+        → IsSpelledCall q n c i
+            (call_texts quads.now firsts.now canonical.now.order node.now issuer.order)
+        → IfOk result (λ p. (j : List Blank) × (p.issuer.order ≡ map blank_text j)
+            × AnswersCall (nodes_of sha256_digits q) c n i (answer p.hash j p.tie)
+            (spending meter.old meter.new depth)) }
     ensures work { (q : List Statement) (n : Blank) (c i : List Blank)
-        → IsSpelledCall q n c i (call_texts quads.now firsts.now canonical.now.order node.now issuer.order)
+        → IsSpelledCall q n c i
+            (call_texts quads.now firsts.now canonical.now.order node.now issuer.order)
         → (limit : ℕ) → result ≡ Err (CanonFault.TooMuchWork limit)
-        → (limit ≡ meter.old.limits.work) × CallOver (nodes_of sha256_digits q) c n i meter.old.spent limit }
+        → (limit ≡ meter.old.limits.work)
+            × CallOver (nodes_of sha256_digits q) c n i meter.old.spent limit }
     ensures deep { (q : List Statement) (n : Blank) (c i : List Blank)
-        → IsSpelledCall q n c i (call_texts quads.now firsts.now canonical.now.order node.now issuer.order)
+        → IsSpelledCall q n c i
+            (call_texts quads.now firsts.now canonical.now.order node.now issuer.order)
         → (limit : ℕ) → result ≡ Err (CanonFault.TooDeep limit)
-        → (limit ≡ meter.old.limits.depth) × CallDeep (nodes_of sha256_digits q) c n i depth limit }
+        → (limit ≡ meter.old.limits.depth)
+            × CallDeep (nodes_of sha256_digits q) c n i depth limit }
 {
     let CallByNumber {
         table,
@@ -85,7 +94,8 @@ pub fn n_degree(
     })
 }
 
-/// The dataset's table, in which each text of the call has a number, and the issuers over these numbers.
+/// The dataset's table, in which each text of the call has a number, and the issuers over these
+/// numbers.
 #[derive(Debug, Drop)]
 struct CallByNumber {
     table: NodeTable,
@@ -102,11 +112,14 @@ fn number_all(
     node: &Text,
 ) -> Result<CallByNumber, Memory>
     ensures table { (q : List Statement) (cs : List Blank) → quads.now ≡ map text_quad q
-        → AreFirstHashes sha256_digits q firsts.now → canonical.now ++ (issuer.now ++ node.now ∷ []) ≡ map blank_text cs
+        → AreFirstHashes sha256_digits q firsts.now
+        → canonical.now ++ (issuer.now ++ node.now ∷ []) ≡ map blank_text cs
         → IfOk result (λ r. IsTableWith q firsts.now cs r.table) }
     ensures node { IfOk result (λ r. Contains (names_of r.table) node.now) }
-    ensures canonical { IfOk result (λ r. r.canonical ≡ issue_numbers [] (filter_map (number_among (names_of r.table)) canonical.now)) }
-    ensures issuer { IfOk result (λ r. r.issuer ≡ filter_map (number_among (names_of r.table)) issuer.now) }
+    ensures canonical { IfOk result (λ r. r.canonical
+        ≡ issue_numbers [] (filter_map (number_among (names_of r.table)) canonical.now)) }
+    ensures issuer { IfOk result (λ r. r.issuer
+        ≡ filter_map (number_among (names_of r.table)) issuer.now) }
 {
     let others = all_names(alloc, canonical, issuer, node)?;
     let table = node_table(alloc, quads, firsts, others.as_slice())?;
@@ -148,7 +161,8 @@ fn push_copies(all: &mut Vec<Text>, texts: &[Text]) -> Result<(), Memory>
 
 /// The numbers of the texts that are names of the table.
 fn numbers_of(alloc: Global, table: &NodeTable, texts: &[Text]) -> Result<Sequence<usize>, Memory>
-    ensures numbers { IfOk result (λ ks. ks ≡ filter_map (number_among (names_of table.now)) texts.now) }
+    ensures numbers { IfOk result (λ ks.
+        ks ≡ filter_map (number_among (names_of table.now)) texts.now) }
 {
     let mut numbers = Sequence::new(alloc);
     for text in texts {
@@ -161,7 +175,8 @@ fn numbers_of(alloc: Global, table: &NodeTable, texts: &[Text]) -> Result<Sequen
 
 /// The issuer that has named the nodes of these texts, in their order.
 fn issuer_over(alloc: Global, table: &NodeTable, texts: &[Text]) -> Result<Canonical, Memory>
-    ensures { IfOk result (λ c. c ≡ issue_numbers [] (filter_map (number_among (names_of table.now)) texts.now)) }
+    ensures { IfOk result (λ c.
+        c ≡ issue_numbers [] (filter_map (number_among (names_of table.now)) texts.now)) }
 {
     let numbers = numbers_of(alloc, table, texts)?;
     let mut issuer = Canonical::new(alloc, table.len())?;

@@ -1,3 +1,4 @@
+//! Calls for blank nodes by their texts.
 use crate::tests::{
     ALONE, First, INNER, MIDDLE, O, OUTER, P, PAIR, Q, Row, TWIN, TWINS, hashes, meter, quads,
 };
@@ -34,9 +35,9 @@ const NESTED_FIRSTS: [First; 4] = [
 
 const NOTHING: &str = "e3b0c44298fc1c149afbf4c8996fb92427ae41e4649b934ca495991b7852b855";
 
-// The hashes, the counts of arrangements and the depths were made by other programs, which follow RDF
-// Dataset Canonicalization, 4.8.3, step by step. In the last two cases the issuers hold names that stand in
-// no statement, and the node of the last is one.
+// The hashes, the counts of arrangements and the depths were made by other programs, which follow
+// RDF Dataset Canonicalization, 4.8.3, step by step. In the last two cases the issuers hold names
+// that stand in no statement, and the node of the last is one.
 const CASES: [Case; 6] = [
     Case {
         rows: &[("_:e0", P, "_:e1"), ("_:e1", P, "_:e0")],

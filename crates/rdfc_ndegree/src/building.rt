@@ -1,3 +1,4 @@
+//! The table of blank nodes, built of statements (RDF Dataset Canonicalization, 4.4.3, step 2).
 ghost use Rattle.std.specs.Prelude.{◌≡◌, List, map, All, IfOk, OnOk, Contains};
 ghost use Rattle.digest_mac.specs.Digests.{sha256_digits};
 ghost use Rattle.nquads.specs.Terms.{Blank, Statement};
@@ -23,9 +24,10 @@ pub struct Parts {
     pub graph: Option<usize>,
 }
 
-/// The table of the blank nodes of a dataset, which `firsts` names with their first-degree hashes, and of
-/// further names, which issuers may hold. The rows are in the order of `firsts`, then of `others`. A name
-/// that stands in no statement has no related nodes, and the digest of nothing as its first-degree hash.
+/// The table of the blank nodes of a dataset, which `firsts` names with their first-degree hashes,
+/// and of further names, which issuers may hold. The rows are in the order of `firsts`, then of
+/// `others`. A name that stands in no statement has no related nodes, and the digest of nothing as
+/// its first-degree hash.
 ///
 /// # Errors
 ///
@@ -39,7 +41,7 @@ pub fn node_table(
     ensures table { (q : List Statement) (cs : List Blank) → quads.now ≡ map text_quad q
         → AreFirstHashes sha256_digits q firsts.now → others.now ≡ map blank_text cs
         → IfOk result (λ table. IsTableWith q firsts.now cs table) }
-    ensures named { IfOk result (λ table. All (Contains (names_of table)) others.now) }
+    ensures others { IfOk result (λ table. All (Contains (names_of table)) others.now) }
 {
     let mut names = Names::new(alloc);
     let mut rows = Vec::new(alloc);
@@ -73,7 +75,8 @@ fn add_others(
 ) -> Result<(), Memory>
     requires { names.old ≡ names_of rows.old.items }
     ensures names { OnOk result (names.new ≡ names_of rows.new.items) }
-    ensures rows { OnOk result (rows.new.items ≡ with_rows rows.old.items (map unused_name others.now)) }
+    ensures rows { OnOk result (rows.new.items
+        ≡ with_rows rows.old.items (map unused_name others.now)) }
 {
     let nothing = sha256_hex(b"");
     for other in others {
@@ -92,7 +95,8 @@ fn add_row(
 ) -> Result<(), Memory>
     requires { names.old ≡ names_of rows.old.items }
     ensures names { OnOk result (names.new ≡ names_of rows.new.items) }
-    ensures rows { OnOk result (rows.new.items ≡ with_row rows.old.items (blank_hash blank.now first.now)) }
+    ensures rows { OnOk result (rows.new.items
+        ≡ with_row rows.old.items (blank_hash blank.now first.now)) }
 {
     if names.number_of(blank.as_str()).is_some() {
         return Ok(());
@@ -110,7 +114,8 @@ fn add_row(
 
 /// Gives each row its related nodes, in the order of the statements.
 fn relate_all(rows: &mut Vec<NodeRow>, names: &Names, quads: &[TextQuad]) -> Result<(), Memory>
-    ensures { OnOk result (rows.new.items ≡ relate_all rows.old.items (map (parts_by_number names.now) quads.now)) }
+    ensures { OnOk result (rows.new.items
+        ≡ relate_all rows.old.items (map (parts_by_number names.now) quads.now)) }
 {
     for quad in quads {
         let parts = parts_by_number(names, quad)?;
@@ -190,7 +195,8 @@ fn push_related(
     predicate: &Text,
     other: Option<usize>,
 ) -> Result<(), Memory>
-    ensures { OnOk result (rows.new.items ≡ relate_row rows.old.items node (related_nodes_at node position predicate.now other)) }
+    ensures { OnOk result (rows.new.items
+        ≡ relate_row rows.old.items node (related_nodes_at node position predicate.now other)) }
 {
     let Some(other) = other else {
         return Ok(());

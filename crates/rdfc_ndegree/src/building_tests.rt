@@ -1,3 +1,4 @@
+//! A table with each shape of statement.
 use crate::{NodeRow, NodeTable, Position, node_table};
 use base_types::{Memory, Text};
 use nquads::{BlankHash, TextQuad, TextQuads};
@@ -66,8 +67,8 @@ fn is_row(row: Option<&NodeRow>, blank: &str, first: &[u8], related: &[(Position
         && row.related.len() == related.len()
 }
 
-// The statements are sorted when the dataset is made, so the one about `<http://example.org/s>` is the
-// first, and `_:nx _:nx _:ny` comes before `_:nx _:ny`.
+// The statements are sorted when the dataset is made, so the one about `<http://example.org/s>` is
+// the first, and `_:nx _:nx _:ny` comes before `_:nx _:ny`.
 #[test]
 fn rows_have_their_related_nodes(rt: HostRuntime) -> Result<(), Memory> {
     let table = table(rt.alloc())?;

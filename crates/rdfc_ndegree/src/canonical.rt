@@ -1,3 +1,4 @@
+//! The canonical issuer over numbers (RDF Dataset Canonicalization, 4.3 and 4.5).
 ghost use Rattle.std.specs.Prelude.{◌≡◌, ◌<◌, ℕ, [], length, slice_get, OnOk, OnErr, IfOk};
 ghost use Rattle.base_types.specs.Sets.{AllDiffer};
 ghost use Rattle.rdfc_ndegree.specs.NumberIssuers.{issue_number, place_in, place_at};
@@ -6,8 +7,8 @@ use base_types::Memory;
 use std::alloc::Global;
 use std::marker::Model;
 
-/// The canonical issuer (RDF Dataset Canonicalization, 4.3) over the rows of a table: the numbers that it
-/// has named, in order, and for each number its place in the order.
+/// The canonical issuer (RDF Dataset Canonicalization, 4.3) over the rows of a table: the numbers
+/// that it has named, in order, and for each number its place in the order.
 #[derive(Debug, Drop)]
 pub struct Canonical {
     order: Vec<usize>,
@@ -40,7 +41,8 @@ impl Canonical {
         })
     }
 
-    /// Names a number. One that is named already keeps its place (RDF Dataset Canonicalization, 4.5).
+    /// Names a number. One that is named already keeps its place (RDF Dataset Canonicalization,
+    /// 4.5).
     ///
     /// # Errors
     ///
@@ -85,7 +87,8 @@ impl Canonical {
 /// Lengthens the places so that one is kept for `node`.
 #[tactic(auto, using(crate::proofs::Places::room))]
 fn make_room(places: &mut Vec<Option<usize>>, node: usize) -> Result<(), Memory>
-    ensures same { (n : ℕ) → place_at (slice_get places.new.items n) ≡ place_at (slice_get places.old.items n) }
+    ensures same { (n : ℕ)
+        → place_at (slice_get places.new.items n) ≡ place_at (slice_get places.old.items n) }
     ensures room { OnOk result (node < length places.new.items) }
 {
     if node < places.len() {

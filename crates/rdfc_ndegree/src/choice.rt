@@ -1,5 +1,4 @@
-//! What the arrangements of a group gave, and which of them is chosen (RDF Dataset Canonicalization,
-//! 4.8.3, steps 5.4.4 to 5.4.6).
+//! The choice among the arrangements of a group (RDF Dataset Canonicalization, 4.8.3, step 5.4).
 ghost use Rattle.std.specs.Prelude.{◌≡◌, ◌==◌, ◌||◌, ◌⊎◌, ℕ, List, [], ◌∷◌, ◌++◌, OnOk, IfOk, nat_lt};
 ghost use Rattle.std.specs.List.{list_any, starts_with};
 ghost use Rattle.rdfc_ndegree.specs.NDegree.{Trail};
@@ -9,8 +8,8 @@ use base_types::{Memory, Sequence};
 use std::alloc::Global;
 use std::cmp::Ordering;
 
-/// What one arrangement gave: its path, its issuer, and for each nested call that met a tie the path as it
-/// stood before that call's part.
+/// What one arrangement gave: its path, its issuer, and for each nested call that met a tie the
+/// path as it stood before that call's part.
 #[derive(Debug, Drop)]
 pub(crate) struct Evaluation {
     pub path: Sequence<u8>,
@@ -18,8 +17,8 @@ pub(crate) struct Evaluation {
     pub ties: Vec<Sequence<u8>>,
 }
 
-/// What is chosen in a group: the least path, the issuer of the arrangement that gave it, and whether a tie
-/// was met that counts.
+/// What is chosen in a group: the least path, the issuer of the arrangement that gave it, and
+/// whether a tie was met that counts.
 #[derive(Debug, Drop)]
 pub(crate) struct Choice {
     pub path: Sequence<u8>,
@@ -27,9 +26,9 @@ pub(crate) struct Choice {
     pub tie: bool,
 }
 
-/// The best of the arrangements so far: the least path, the issuer of the first that gave it, how many gave
-/// it, and the ties of all of them, which can be judged only when the least path is final. None gave it
-/// before the first arrangement.
+/// The best of the arrangements so far: the least path, the issuer of the first that gave it, how
+/// many gave it, and the ties of all of them, which can be judged only when the least path is
+/// final. None gave it before the first arrangement.
 #[derive(Debug, Drop)]
 pub(crate) struct Best {
     pub path: Sequence<u8>,
@@ -41,7 +40,8 @@ pub(crate) struct Best {
 impl Best {
     pub fn new(alloc: Global) -> Best
         ensures issuer { result.issuer ≡ [] }
-        ensures best { IsBestOf {B = ℕ} [] result.path result.issuer result.sharing result.ties.items }
+        ensures best { IsBestOf {B = ℕ} []
+            result.path result.issuer result.sharing result.ties.items }
     {
         Best {
             path: Sequence::new(alloc),
@@ -53,11 +53,14 @@ impl Best {
 
     /// Takes what one more arrangement gave.
     pub fn take(&mut self, evaluation: Evaluation) -> Result<(), Memory>
-        ensures issuer { OnOk result ((self.new.issuer ≡ self.old.issuer) ⊎ (self.new.issuer ≡ evaluation.issuer)) }
+        ensures issuer { OnOk result (
+            (self.new.issuer ≡ self.old.issuer) ⊎ (self.new.issuer ≡ evaluation.issuer)) }
         ensures best { OnOk result ((ts : List (Trail ℕ)) (t : Trail ℕ)
             → IsBestOf ts self.old.path self.old.issuer self.old.sharing self.old.ties.items
-            → evaluation.path ≡ t.path → evaluation.issuer ≡ t.issuer → evaluation.ties.items ≡ t.ties
-            → IsBestOf (ts ++ t ∷ []) self.new.path self.new.issuer self.new.sharing self.new.ties.items) }
+            → evaluation.path ≡ t.path → evaluation.issuer ≡ t.issuer
+            → evaluation.ties.items ≡ t.ties
+            → IsBestOf (ts ++ t ∷ [])
+                self.new.path self.new.issuer self.new.sharing self.new.ties.items) }
     {
         let Evaluation {
             path,
@@ -87,17 +90,19 @@ impl Best {
         path.cmp(self.path.as_slice())
     }
 
-    /// Whether the arrangements met a tie that counts: two gave the least path, or the path before a nested
-    /// tie begins the least path.
+    /// Whether the arrangements met a tie that counts: two gave the least path, or the path before
+    /// a nested tie begins the least path.
     pub fn is_tied(&self) -> bool
-        ensures { result ≡ (nat_lt 1 self.now.sharing || list_any (λ before. starts_with ◌==◌ self.now.path before) self.now.ties.items) }
+        ensures { result ≡ (nat_lt 1 self.now.sharing
+            || list_any (λ before. starts_with ◌==◌ self.now.path before) self.now.ties.items) }
     {
         self.sharing > 1 || self.has_tie()
     }
 
     /// Whether the path before a nested tie begins the least path.
     fn has_tie(&self) -> bool
-        ensures { result ≡ list_any (λ before. starts_with ◌==◌ self.now.path before) self.now.ties.items }
+        ensures { result
+            ≡ list_any (λ before. starts_with ◌==◌ self.now.path before) self.now.ties.items }
     {
         let path = self.path.as_slice();
         self.ties
@@ -109,7 +114,8 @@ impl Best {
     pub fn into_choice(self) -> Choice
         ensures path { result.path ≡ self.path }
         ensures issuer { result.issuer ≡ self.issuer }
-        ensures tie { result.tie ≡ (nat_lt 1 self.sharing || list_any (λ before. starts_with ◌==◌ self.path before) self.ties.items) }
+        ensures tie { result.tie ≡ (nat_lt 1 self.sharing
+            || list_any (λ before. starts_with ◌==◌ self.path before) self.ties.items) }
     {
         let tie = self.is_tied();
         Choice {

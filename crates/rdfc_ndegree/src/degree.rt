@@ -18,12 +18,12 @@ use base_types::{Memory, Sequence};
 use digest_mac::sha256_hex;
 use std::alloc::Global;
 
-/// The n-degree hash of a node (RDF Dataset Canonicalization, 4.8). `issuer` is the issuer with which the
-/// call begins, `depth` the number of n-degree calls that are open, this one counted. Each arrangement that
-/// is evaluated adds one to what `meter` has spent.
+/// The n-degree hash of a node (RDF Dataset Canonicalization, 4.8). `issuer` is the issuer with
+/// which the call begins, `depth` the number of n-degree calls that are open, this one counted.
+/// Each arrangement that is evaluated adds one to what `meter` has spent.
 ///
-/// Errors: `TooMuchWork` where one more arrangement would go over the limit of work, `TooDeep` where one
-/// more open call would go over the limit of depth, each with the limit; `Memory`.
+/// Errors: `TooMuchWork` where one more arrangement would go over the limit of work, `TooDeep`
+/// where one more open call would go over the limit of depth, each with the limit; `Memory`.
 pub fn hash_n_degree(
     alloc: Global,
     table: &NodeTable,
@@ -37,11 +37,17 @@ pub fn hash_n_degree(
     requires issuer { All (λ k. k < length table.now) issuer }
     ensures limits { meter.new.limits ≡ meter.old.limits }
     ensures rises { meter.old.spent ≤ meter.new.spent }
-    ensures kept { meter.old.spent ≤ meter.old.limits.work → IfOk result (λ _. meter.new.spent ≤ meter.old.limits.work) }
+    ensures kept { meter.old.spent ≤ meter.old.limits.work
+        → IfOk result (λ _. meter.new.spent ≤ meter.old.limits.work) }
     ensures inside { IfOk result (λ p. All (λ k. k < length table.now) p.issuer) }
-    ensures ok { IfOk result (λ p. AnswersCall (table_nodes table.now) canonical.now node issuer (answer p.hash p.issuer p.tie) (spending meter.old meter.new depth)) }
-    ensures work { (limit : ℕ) → result ≡ Err (CanonFault.TooMuchWork limit) → (limit ≡ meter.old.limits.work) × CallOver (table_nodes table.now) canonical.now node issuer meter.old.spent limit }
-    ensures deep { (limit : ℕ) → result ≡ Err (CanonFault.TooDeep limit) → (limit ≡ meter.old.limits.depth) × CallDeep (table_nodes table.now) canonical.now node issuer depth limit }
+    ensures ok { IfOk result (λ p. AnswersCall (table_nodes table.now) canonical.now node issuer
+        (answer p.hash p.issuer p.tie) (spending meter.old meter.new depth)) }
+    ensures work { (limit : ℕ) → result ≡ Err (CanonFault.TooMuchWork limit)
+        → (limit ≡ meter.old.limits.work)
+        × CallOver (table_nodes table.now) canonical.now node issuer meter.old.spent limit }
+    ensures deep { (limit : ℕ) → result ≡ Err (CanonFault.TooDeep limit)
+        → (limit ≡ meter.old.limits.depth)
+        × CallDeep (table_nodes table.now) canonical.now node issuer depth limit }
 {
     see_closed(table);
     if depth > meter.limits.depth {
@@ -57,8 +63,8 @@ fn see_closed(table: &NodeTable)
     let _row = table.row(0);
 }
 
-/// The call for one node: its groups one after another, each with the issuer that was chosen in the one
-/// before. RDF Dataset Canonicalization, 4.8.3, steps 1 to 3, 5 and 6.
+/// The call for one node: its groups one after another, each with the issuer that was chosen in the
+/// one before. RDF Dataset Canonicalization, 4.8.3, steps 1 to 3, 5 and 6.
 #[cycle(degree)]
 fn call(
     alloc: Global,
@@ -75,10 +81,14 @@ fn call(
     requires depth { depth ≤ meter.old.limits.depth }
     ensures limits { meter.new.limits ≡ meter.old.limits }
     ensures rises { meter.old.spent ≤ meter.new.spent }
-    ensures kept { meter.old.spent ≤ meter.old.limits.work → IfOk result (λ _. meter.new.spent ≤ meter.old.limits.work) }
+    ensures kept { meter.old.spent ≤ meter.old.limits.work
+        → IfOk result (λ _. meter.new.spent ≤ meter.old.limits.work) }
     ensures inside { IfOk result (λ p. All (λ k. k < length table.now) p.issuer) }
-    ensures ok { IfOk result (λ p. AnswersCall (table_nodes table.now) canonical.now node issuer (answer p.hash p.issuer p.tie) (spending meter.old meter.new depth)) }
-    ensures fault { IfErr result (IsFaultOf meter.old.limits (CallOver (table_nodes table.now) canonical.now node issuer meter.old.spent) (CallDeep (table_nodes table.now) canonical.now node issuer depth)) }
+    ensures ok { IfOk result (λ p. AnswersCall (table_nodes table.now) canonical.now node issuer
+        (answer p.hash p.issuer p.tie) (spending meter.old meter.new depth)) }
+    ensures fault { IfErr result (IsFaultOf meter.old.limits
+        (CallOver (table_nodes table.now) canonical.now node issuer meter.old.spent)
+        (CallDeep (table_nodes table.now) canonical.now node issuer depth)) }
 {
     let groups = related_groups(alloc, table, canonical, issuer.as_slice(), node)?;
     let mut text = Vec::new(alloc);
@@ -112,8 +122,8 @@ fn call(
     })
 }
 
-/// The group's hash and the chosen path go to the data. RDF Dataset Canonicalization, 4.8.3, steps 5.1
-/// and 5.5.
+/// The group's hash and the chosen path go to the data. RDF Dataset Canonicalization, 4.8.3, steps
+/// 5.1 and 5.5.
 fn push_choice(text: &mut Vec<u8>, hash: &[u8; 64], path: &[u8]) -> Result<(), Memory>
     ensures { OnOk result (text.new.items ≡ text.old.items ++ (hash.now ++ path.now)) }
 {
@@ -122,8 +132,8 @@ fn push_choice(text: &mut Vec<u8>, hash: &[u8; 64], path: &[u8]) -> Result<(), M
     Ok(())
 }
 
-/// The choice in one group: every arrangement is evaluated, and the first with the least path is chosen.
-/// RDF Dataset Canonicalization, 4.8.3, step 5.4.
+/// The choice in one group: every arrangement is evaluated, and the first with the least path is
+/// chosen. RDF Dataset Canonicalization, 4.8.3, step 5.4.
 #[cycle(degree)]
 fn choose(
     alloc: Global,
@@ -140,10 +150,15 @@ fn choose(
     requires depth { depth ≤ meter.old.limits.depth }
     ensures limits { meter.new.limits ≡ meter.old.limits }
     ensures rises { meter.old.spent ≤ meter.new.spent }
-    ensures kept { meter.old.spent ≤ meter.old.limits.work → IfOk result (λ _. meter.new.spent ≤ meter.old.limits.work) }
+    ensures kept { meter.old.spent ≤ meter.old.limits.work
+        → IfOk result (λ _. meter.new.spent ≤ meter.old.limits.work) }
     ensures inside { IfOk result (λ x. All (λ k. k < length table.now) x.issuer) }
-    ensures ok { IfOk result (λ x. AnswersChoice (table_nodes table.now) canonical.now issuer.now members.now (choice_answer x.path x.issuer x.tie) (spending meter.old meter.new depth)) }
-    ensures fault { IfErr result (IsFaultOf meter.old.limits (ChoiceOver (table_nodes table.now) canonical.now issuer.now members.now meter.old.spent) (ChoiceDeep (table_nodes table.now) canonical.now issuer.now members.now depth)) }
+    ensures ok { IfOk result (λ x.
+        AnswersChoice (table_nodes table.now) canonical.now issuer.now members.now
+        (choice_answer x.path x.issuer x.tie) (spending meter.old meter.new depth)) }
+    ensures fault { IfErr result (IsFaultOf meter.old.limits
+        (ChoiceOver (table_nodes table.now) canonical.now issuer.now members.now meter.old.spent)
+        (ChoiceDeep (table_nodes table.now) canonical.now issuer.now members.now depth)) }
 {
     let mut left = Arrangements::new(alloc, members)?;
     let mut best = Best::new(alloc);
@@ -160,8 +175,11 @@ fn choose(
 fn count_arrangement(meter: &mut Meter) -> Result<(), CanonFault>
     ensures limits { meter.new.limits ≡ meter.old.limits }
     ensures rises { meter.old.spent ≤ meter.new.spent }
-    ensures counted { OnOk result ((meter.new.spent ≡ meter.old.spent + 1) × (meter.old.spent < meter.old.limits.work)) }
-    ensures full { IfErr result (λ e. (e ≡ CanonFault.TooMuchWork meter.old.limits.work) × (meter.old.limits.work ≤ meter.old.spent)) }
+    ensures counted { OnOk result (
+        (meter.new.spent ≡ meter.old.spent + 1) × (meter.old.spent < meter.old.limits.work)) }
+    ensures full { IfErr result (λ e.
+        (e ≡ CanonFault.TooMuchWork meter.old.limits.work)
+        × (meter.old.limits.work ≤ meter.old.spent)) }
 {
     if meter.spent >= meter.limits.work {
         return Err(CanonFault::TooMuchWork(meter.limits.work));
@@ -170,8 +188,9 @@ fn count_arrangement(meter: &mut Meter) -> Result<(), CanonFault>
     Ok(())
 }
 
-/// Evaluates one arrangement to its end: names its members, then calls for each that was named here, with
-/// the issuer that the call before gave. RDF Dataset Canonicalization, 4.8.3, steps 5.4.1 to 5.4.5.
+/// Evaluates one arrangement to its end: names its members, then calls for each that was named
+/// here, with the issuer that the call before gave. RDF Dataset Canonicalization, 4.8.3, steps
+/// 5.4.1 to 5.4.5.
 #[cycle(degree)]
 fn evaluate(
     alloc: Global,
@@ -188,10 +207,15 @@ fn evaluate(
     requires depth { depth ≤ meter.old.limits.depth }
     ensures limits { meter.new.limits ≡ meter.old.limits }
     ensures rises { meter.old.spent ≤ meter.new.spent }
-    ensures kept { meter.old.spent ≤ meter.old.limits.work → IfOk result (λ _. meter.new.spent ≤ meter.old.limits.work) }
+    ensures kept { meter.old.spent ≤ meter.old.limits.work
+        → IfOk result (λ _. meter.new.spent ≤ meter.old.limits.work) }
     ensures inside { IfOk result (λ x. All (λ k. k < length table.now) x.issuer) }
-    ensures ok { IfOk result (λ x. AnswersTrail (table_nodes table.now) canonical.now issuer.now arrangement.now (trail_answer x.path x.issuer x.ties.items) (spending meter.old meter.new depth)) }
-    ensures fault { IfErr result (IsFaultOf meter.old.limits (TrailOver (table_nodes table.now) canonical.now issuer.now arrangement.now meter.old.spent) (TrailDeep (table_nodes table.now) canonical.now issuer.now arrangement.now depth)) }
+    ensures ok { IfOk result (λ x.
+        AnswersTrail (table_nodes table.now) canonical.now issuer.now arrangement.now
+        (trail_answer x.path x.issuer x.ties.items) (spending meter.old meter.new depth)) }
+    ensures fault { IfErr result (IsFaultOf meter.old.limits
+        (TrailOver (table_nodes table.now) canonical.now issuer.now arrangement.now meter.old.spent)
+        (TrailDeep (table_nodes table.now) canonical.now issuer.now arrangement.now depth)) }
 {
     let Walk {
         path,
@@ -240,7 +264,8 @@ fn note_tie(
     tie: bool,
     path: &[u8],
 ) -> Result<(), Memory>
-    ensures { OnOk result (ties.new.items ≡ (if tie then ties.old.items ++ path.now ∷ [] else ties.old.items)) }
+    ensures { OnOk result (ties.new.items
+        ≡ (if tie then ties.old.items ++ path.now ∷ [] else ties.old.items)) }
 {
     if tie {
         ties.push(Sequence::from_vec(path.to_vec(alloc)?))?;

@@ -1,3 +1,4 @@
+//! Calls over a table, within exactly their limits.
 use crate::tests::{
     ALONE, First, INNER, MIDDLE, O, OUTER, P, PAIR, Q, Row, TWIN, TWINS, hashes, meter, quads,
 };
@@ -84,8 +85,8 @@ fn is_exact(
     Ok(is_given && is_over(alloc, table, node, want) && is_deep(alloc, table, node, want))
 }
 
-// The hashes, the counts of arrangements and the depths were made by another program, which follows RDF
-// Dataset Canonicalization, 4.8.3, step by step.
+// The hashes, the counts of arrangements and the depths were made by another program, which follows
+// RDF Dataset Canonicalization, 4.8.3, step by step.
 #[test]
 fn nodes_that_point_to_each_other(rt: HostRuntime) -> Result<(), CanonFault> {
     let rows = [("_:e0", P, "_:e1"), ("_:e1", P, "_:e0")];
@@ -101,8 +102,8 @@ fn nodes_that_point_to_each_other(rt: HostRuntime) -> Result<(), CanonFault> {
     Ok(())
 }
 
-// Two related nodes that nothing tells apart: both arrangements give one path, and the issuer is that of
-// the first.
+// Two related nodes that nothing tells apart: both arrangements give one path, and the issuer is
+// that of the first.
 #[test]
 fn arrangements_with_one_path(rt: HostRuntime) -> Result<(), CanonFault> {
     let rows = [("_:e2", P, "_:e0"), ("_:e2", P, "_:e1")];

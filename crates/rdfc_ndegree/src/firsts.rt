@@ -1,3 +1,4 @@
+//! Nodes grouped by first-degree hash (RDF Dataset Canonicalization, 4.4.3, step 3).
 ghost use Rattle.std.specs.Prelude.{◌≡◌, ◌<◌, map, length, All, IfOk};
 ghost use Rattle.rdfc_ndegree.specs.Run.{first_groups, with_first_hash};
 ghost use Rattle.rdfc_ndegree.specs.Table.{group_in};
@@ -16,8 +17,10 @@ use std::alloc::Global;
 ///
 /// `Memory`: there is no memory for the groups.
 pub fn first_groups(alloc: Global, table: &NodeTable) -> Result<Vec<NodeGroup>, Memory>
-    ensures groups { IfOk result (λ groups. map group_in groups.items ≡ first_groups (table_nodes table.now)) }
-    ensures listed { IfOk result (λ groups. All (λ g. All (λ m. m < length table.now) g.members) groups.items) }
+    ensures groups { IfOk result (λ groups. map group_in groups.items
+        ≡ first_groups (table_nodes table.now)) }
+    ensures listed { IfOk result (λ groups.
+        All (λ g. All (λ m. m < length table.now) g.members) groups.items) }
     ensures closed { IsClosed table.now }
 {
     let _row = table.row(0);
@@ -28,7 +31,8 @@ pub fn first_groups(alloc: Global, table: &NodeTable) -> Result<Vec<NodeGroup>, 
 
 /// Each node with its first-degree hash.
 fn hashed_rows(alloc: Global, table: &NodeTable) -> Result<Vec<HashedNode>, Memory>
-    ensures { IfOk result (λ hs. map node_hash hs.items ≡ map (with_first_hash (table_nodes table.now)) (table_nodes table.now).all) }
+    ensures { IfOk result (λ hs. map node_hash hs.items
+        ≡ map (with_first_hash (table_nodes table.now)) (table_nodes table.now).all) }
 {
     let mut hashed = Vec::new(alloc);
     for node in 0..table.len() {

@@ -1,3 +1,4 @@
+//! Canonical and temporary identifiers (RDF Dataset Canonicalization, 4.5).
 ghost use Rattle.std.specs.Prelude.{◌≡◌, ◌∷◌, ◌++◌, [], codes, decimal, OnOk};
 ghost use Rattle.rdfc_ndegree.specs.NumberIssuers.{place_in};
 

@@ -1,9 +1,10 @@
-//! N-degree hashing of blank nodes (RDF Dataset Canonicalization, 4.7 and 4.8), and what runs of the
-//! canonicalization algorithm are.
+//! N-degree hashing of blank nodes (RDF Dataset Canonicalization, 4.7 and 4.8), and what runs of
+//! the canonicalization algorithm are.
 //!
-//! `specs/` defines n-degree hashing and runs as relations over any kind of node: every arrangement is
-//! evaluated, and any with the least path may be chosen. The code works over a table in which blank nodes
-//! are numbers (`NodeTable`), and a law carries each of its runs to the blank nodes of the dataset.
+//! `specs/` defines n-degree hashing and runs as relations over any kind of node: every arrangement
+//! is evaluated, and any with the least path may be chosen. The code works over a table in which
+//! blank nodes are numbers (`NodeTable`), and a law carries each of its runs to the blank nodes of
+//! the dataset.
 #![tactic(auto)]
 
 mod arrangements;

@@ -1,7 +1,8 @@
+//! Limits, what was spent, faults, issuers by their texts (RDF Dataset Canonicalization, 4.3).
 ghost use Rattle.std.specs.Prelude.{◌≡◌};
 
 use base_types::{Memory, Sequence, Text};
-use std::alloc::{AllocError, AllocFailed};
+use std::alloc::AllocFailed;
 
 /// How many arrangements may be evaluated, and how many n-degree calls may be open at once.
 #[derive(Clone, Copy, Debug, PartialEq, Eq)]
@@ -24,7 +25,7 @@ pub enum CanonFault {
     TooMuchWork(u64),
     /// More n-degree calls than this limit would be open at once.
     TooDeep(u64),
-    /// Want of memory.
+    /// Out of memory.
     Memory,
 }
 
@@ -34,16 +35,6 @@ impl From<Memory> for CanonFault {
     ghost from_gives = { λ _ e. e ≡ fault.Memory };
 
     fn from(_memory: Memory) -> CanonFault {
-        CanonFault::Memory
-    }
-}
-
-impl From<AllocError> for CanonFault {
-    ghost use Rattle.rdfc_ndegree.specs.declared.limits.CanonFault.TheVariants as fault;
-
-    ghost from_gives = { λ _ e. e ≡ fault.Memory };
-
-    fn from(_error: AllocError) -> CanonFault {
         CanonFault::Memory
     }
 }
@@ -58,8 +49,8 @@ impl<T: Drop> From<AllocFailed<T>> for CanonFault {
     }
 }
 
-/// An identifier issuer (RDF Dataset Canonicalization, 4.3): the blank nodes that it has named, in order.
-/// A node's number is its place.
+/// An identifier issuer (RDF Dataset Canonicalization, 4.3): the blank nodes that it has named, in
+/// order. A node's number is its place.
 #[derive(Debug, Drop)]
 pub struct Issuer {
     pub order: Sequence<Text>,

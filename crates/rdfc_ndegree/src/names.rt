@@ -1,3 +1,4 @@
+//! Texts by number, found by hash.
 ghost use Rattle.std.specs.Prelude.{◌≡◌, [], ◌∷◌, ◌++◌, None, OnOk};
 ghost use Rattle.rdfc_ndegree.specs.Table.{number_among};
 
@@ -6,7 +7,8 @@ use indexmap::IndexSet;
 use std::alloc::Global;
 use std::marker::Model;
 
-/// Texts in the order in which they were put in, each once, found by hash. A text's number is its place.
+/// Texts in the order in which they were put in, each once, found by hash. A text's number is its
+/// place.
 #[derive(Debug, Drop)]
 pub struct Names {
     texts: IndexSet<String>,

@@ -1,3 +1,4 @@
+//! What n-degree hashing gives over a table (RDF Dataset Canonicalization, 4.8).
 use base_types::Sequence;
 
 /// What n-degree hashing gives over a table: the hash, the numbers of the nodes that the issuer has

@@ -1,3 +1,4 @@
+//! Related hashes, and nodes grouped by them (RDF Dataset Canonicalization, 4.7).
 ghost use Rattle.std.specs.Prelude.{◌≡◌, ◌<◌, ◌++◌, map, length, All, IsTrue, OnOk, IfOk};
 ghost use Rattle.rdfc_ndegree.specs.Groups.{position_text, identifier_or_hash, groups_by_hash, with_related_hash, related_groups};
 ghost use Rattle.rdfc_ndegree.specs.Internal.Grouping.{node_hash, add_to_groups, last_has_hash};
@@ -25,8 +26,9 @@ pub struct NodeGroup {
     pub members: Sequence<usize>,
 }
 
-/// The related nodes of a node, once for each occurrence, grouped by the related hashes that are taken
-/// with this issuer. The groups are in hash order. RDF Dataset Canonicalization, 4.8.3, steps 1 to 3.
+/// The related nodes of a node, once for each occurrence, grouped by the related hashes that are
+/// taken with this issuer. The groups are in hash order. RDF Dataset Canonicalization, 4.8.3, steps
+/// 1 to 3.
 ///
 /// # Errors
 ///
@@ -38,8 +40,10 @@ pub fn related_groups(
     issuer: &[usize],
     node: usize,
 ) -> Result<Vec<NodeGroup>, Memory>
-    ensures groups { IfOk result (λ groups. map group_in groups.items ≡ related_groups (table_nodes table.now) canonical.now issuer.now node) }
-    ensures listed { IfOk result (λ groups. All (λ g. All (λ m. m < length table.now) g.members) groups.items) }
+    ensures groups { IfOk result (λ groups. map group_in groups.items
+        ≡ related_groups (table_nodes table.now) canonical.now issuer.now node) }
+    ensures listed { IfOk result (λ groups.
+        All (λ g. All (λ m. m < length table.now) g.members) groups.items) }
 {
     let Some(row) = table.row(node) else {
         return Ok(Vec::new(alloc));
@@ -57,7 +61,9 @@ fn related_hashes(
     issuer: &[usize],
     related: &[Related],
 ) -> Result<Vec<HashedNode>, Memory>
-    ensures { IfOk result (λ hs. map node_hash hs.items ≡ map (with_related_hash (table_nodes table.now) canonical.now issuer.now) (map occurrence_of related.now)) }
+    ensures { IfOk result (λ hs. map node_hash hs.items
+        ≡ map (with_related_hash (table_nodes table.now) canonical.now issuer.now)
+            (map occurrence_of related.now)) }
 {
     let mut hashed = Vec::new(alloc);
     for occurrence in related {
@@ -72,9 +78,11 @@ fn related_hashes(
     Ok(hashed)
 }
 
-/// `s`, `o` or `g`, and for the first two the predicate. RDF Dataset Canonicalization, 4.7.3, steps 1 and 2.
+/// `s`, `o` or `g`, and for the first two the predicate. RDF Dataset Canonicalization, 4.7.3, steps
+/// 1 and 2.
 fn push_position(text: &mut Vec<u8>, occurrence: &Related) -> Result<(), Memory>
-    ensures { OnOk result (text.new.items ≡ text.old.items ++ position_text occurrence.now.position occurrence.now.predicate) }
+    ensures { OnOk result (text.new.items
+        ≡ text.old.items ++ position_text occurrence.now.position occurrence.now.predicate) }
 {
     match occurrence.position {
         Position::Subject => text.push(b's')?,
@@ -99,7 +107,9 @@ fn push_identifier_or_hash(
     issuer: &[usize],
     node: usize,
 ) -> Result<(), Memory>
-    ensures { OnOk result (text.new.items ≡ text.old.items ++ identifier_or_hash (table_nodes table.now) canonical.now issuer.now node) }
+    ensures { OnOk result (text.new.items
+        ≡ text.old.items
+            ++ identifier_or_hash (table_nodes table.now) canonical.now issuer.now node) }
 {
     if let Some(number) = canonical.number(node) {
         return push_canonical(alloc, text, number);
@@ -118,7 +128,8 @@ pub(crate) fn group_by_hash(
     alloc: Global,
     mut hashed: Vec<HashedNode>,
 ) -> Result<Vec<NodeGroup>, Memory>
-    ensures { IfOk result (λ groups. map group_in groups.items ≡ groups_by_hash (map node_hash hashed.items)) }
+    ensures { IfOk result (λ groups. map group_in groups.items
+        ≡ groups_by_hash (map node_hash hashed.items)) }
 {
     hashed.sort_by_key(
         |node: &HashedNode|
@@ -135,7 +146,8 @@ pub(crate) fn group_by_hash(
 /// Adds a node to the last group if it has its hash, and else as a group of its own.
 #[tactic(auto, using(crate::proofs::Adding::adding))]
 fn add(alloc: Global, groups: &mut Vec<NodeGroup>, next: &HashedNode) -> Result<(), Memory>
-    ensures { OnOk result (map group_in groups.new.items ≡ add_to_groups (map group_in groups.old.items) (node_hash next.now)) }
+    ensures { OnOk result (map group_in groups.new.items
+        ≡ add_to_groups (map group_in groups.old.items) (node_hash next.now)) }
 {
     if last_has_hash(groups.as_slice(), &next.hash) {
         let last = groups.len() - 1;

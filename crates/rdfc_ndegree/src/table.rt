@@ -1,3 +1,4 @@
+//! The table of blank nodes by number (RDF Dataset Canonicalization, 4.3).
 ghost use Rattle.std.specs.Prelude.{◌≡◌, ◌<◌, length, slice_get};
 ghost use Rattle.std.specs.Option.{option_copied};
 ghost use Rattle.rdfc_ndegree.specs.Table.{IsClosed};
@@ -15,8 +16,8 @@ pub enum Position {
     Graph,
 }
 
-/// One occurrence of a related node: where it stands, the statement's predicate in angle brackets, and
-/// the number of the node.
+/// One occurrence of a related node: where it stands, the statement's predicate in angle brackets,
+/// and the number of the node.
 #[derive(Debug, Drop)]
 pub struct Related {
     pub position: Position,
@@ -24,8 +25,8 @@ pub struct Related {
     pub node: usize,
 }
 
-/// A node: the text by which statements name it, its first-degree hash, and its related nodes, once for
-/// each occurrence.
+/// A node: the text by which statements name it, its first-degree hash, and its related nodes, once
+/// for each occurrence.
 #[derive(Debug, Drop)]
 pub struct NodeRow {
     pub blank: Text,
@@ -58,7 +59,7 @@ impl NodeTable {
     /// The table with these rows, whose texts `names` has in their order.
     pub(crate) fn from_rows(rows: Vec<NodeRow>, names: Names) -> NodeTable
         requires closed { IsClosed rows.items }
-        requires named { names ≡ names_of rows.items }
+        requires names { names ≡ names_of rows.items }
         ensures { result ≡ rows.items }
     {
         NodeTable { rows, names }

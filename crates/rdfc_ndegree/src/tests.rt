@@ -1,3 +1,4 @@
+//! The parts of an n-degree call, one by one.
 use crate::arrangements::Arrangements;
 use crate::building::node_table;
 use crate::canonical::Canonical;
@@ -117,8 +118,8 @@ fn table(alloc: Global) -> Result<NodeTable, Memory> {
     node_table(alloc, &TextQuads::from_vec(quads), firsts.as_slice(), &[])
 }
 
-// Digests of `o<http://example.com/p>_:b1`, `s<http://example.com/p>_:c14n0` and `g` with the first-degree
-// hash of node 3, by another implementation.
+// Digests of `o<http://example.com/p>_:b1`, `s<http://example.com/p>_:c14n0` and `g` with the
+// first-degree hash of node 3, by another implementation.
 const GROUPS: [(&str, &[usize]); 3] = [
     (
         "0812120ca92da9f873a909c071e0fb62892e99173aa16a354ff8b0aad21322ad",

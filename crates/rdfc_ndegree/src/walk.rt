@@ -1,3 +1,4 @@
+//! The path of an arrangement (RDF Dataset Canonicalization, 4.8.3, steps 5.4.4 and 5.4.5).
 ghost use Rattle.std.specs.Prelude.{◌≡◌, ◌∷◌, ◌++◌, [], List, OnOk, IfOk};
 ghost use Rattle.rdfc_ndegree.specs.NDegree.{issue_temporary, identifier, issuer_copy, first_path, recursion_list, path_part};
 ghost use Rattle.rdfc_ndegree.specs.Table.{table_nodes};
@@ -8,8 +9,8 @@ use crate::identifiers::{place_of, push_canonical, push_temporary};
 use base_types::{Memory, Sequence};
 use std::alloc::Global;
 
-/// The first pass over an arrangement: the path that its members give, the issuer after them, and those of
-/// them that were named in this pass, in order.
+/// The first pass over an arrangement: the path that its members give, the issuer after them, and
+/// those of them that were named in this pass, in order.
 #[derive(Debug, Drop)]
 pub struct Walk {
     pub path: Sequence<u8>,
@@ -17,8 +18,9 @@ pub struct Walk {
     pub recursion_list: Sequence<usize>,
 }
 
-/// Goes over the members of an arrangement: each one that has no identifier yet is named in a copy of the
-/// issuer, and the identifier of each goes to the path. RDF Dataset Canonicalization, 4.8.3, step 5.4.4.
+/// Goes over the members of an arrangement: each one that has no identifier yet is named in a copy
+/// of the issuer, and the identifier of each goes to the path. RDF Dataset Canonicalization, 4.8.3,
+/// step 5.4.4.
 ///
 /// # Errors
 ///
@@ -29,7 +31,11 @@ pub fn walk_over(
     issuer: &[usize],
     members: &[usize],
 ) -> Result<Walk, Memory>
-    ensures { (rows : List NodeRow) → IfOk result (λ w. (w.path ≡ first_path (table_nodes rows) canonical.now issuer.now members.now) × (w.issuer ≡ issuer_copy (table_nodes rows) canonical.now issuer.now members.now) × (w.recursion_list ≡ recursion_list (table_nodes rows) canonical.now issuer.now members.now)) }
+    ensures { (rows : List NodeRow) → IfOk result (λ w.
+        (w.path ≡ first_path (table_nodes rows) canonical.now issuer.now members.now)
+        × (w.issuer ≡ issuer_copy (table_nodes rows) canonical.now issuer.now members.now)
+        × (w.recursion_list
+            ≡ recursion_list (table_nodes rows) canonical.now issuer.now members.now)) }
 {
     let mut path = Vec::new(alloc);
     let mut issuer_copy = issuer.to_vec(alloc)?;
@@ -52,8 +58,8 @@ pub fn walk_over(
     })
 }
 
-/// Puts what a nested call adds at the end of the path: `_:` and the member's temporary identifier, and the
-/// hash in angle brackets. RDF Dataset Canonicalization, 4.8.3, steps 5.4.5.2 and 5.4.5.3.
+/// Puts what a nested call adds at the end of the path: `_:` and the member's temporary identifier,
+/// and the hash in angle brackets. RDF Dataset Canonicalization, 4.8.3, steps 5.4.5.2 and 5.4.5.3.
 ///
 /// # Errors
 ///
@@ -65,7 +71,8 @@ pub fn push_path_part(
     member: usize,
     hash: &[u8; 64],
 ) -> Result<(), Memory>
-    ensures { (rows : List NodeRow) → OnOk result (path.new.items ≡ path.old.items ++ path_part (table_nodes rows) issuer.now member hash.now) }
+    ensures { (rows : List NodeRow) → OnOk result (path.new.items
+        ≡ path.old.items ++ path_part (table_nodes rows) issuer.now member hash.now) }
 {
     let number = place_of(issuer, member).unwrap_or(issuer.len());
     push_temporary(alloc, path, number)?;

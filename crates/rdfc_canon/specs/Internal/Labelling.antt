@@ -1,4 +1,5 @@
--- Labels of the nodes of a table, in the order of the canonical issuer. RDF Canonicalization, 4.4.3, step 6.
+-- Labels of the nodes of a table, in the order of the canonical issuer. RDF Canonicalization,
+-- 4.4.3, step 6.
 use Rattle.std.specs.Prelude.{ℕ, List, [], ◌∷◌, ◌++◌, length, codes, decimal, Option, Some, None, slice_get, if◌then◌else◌}
 use Rattle.std.specs.Option.{is_some}
 use Rattle.nquads.specs.Texts.{label, find_label}

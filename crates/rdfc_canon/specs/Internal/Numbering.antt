@@ -5,6 +5,7 @@ use Rattle.std.specs.List.{AllZip, list_any}
 use Rattle.rdfc_ndegree.specs.Nodes.{Nodes}
 use Rattle.rdfc_ndegree.specs.Answers.{Spending}
 use Rattle.rdfc_ndegree.specs.declared.limits.Limits.{Limits}
+use Rattle.rdfc_ndegree.specs.Internal.Issuing.{issue_numbers}
 use Rattle.rdfc_ndegree.specs.NDegree.{Outcome, IsNDegree}
 use Rattle.rdfc_ndegree.specs.Run.{RunOutcome, IsRun, Rounds, lacking, take_issuers, InHashOrder, results_tie, work_of, depth_of}
 use Rattle.rdfc_ndegree.specs.declared.path.NodePath.{NodePath}
@@ -34,8 +35,8 @@ pub record IsPathOf (path : NodePath) (o : Outcome ℕ) : Type 0 where
   pub issuer : path.issuer ≡ o.issuer
   pub tie : path.tie ≡ o.tie
 
--- The paths are those of calls of the nodes ns, the count has risen by exactly their arrangements, and none
--- is deeper than the limit.
+-- The paths are those of calls of the nodes ns, the count has risen by exactly their arrangements,
+-- and none is deeper than the limit.
 pub record AnswersHashes (v : Nodes ℕ) (c ns : List ℕ) (paths : List NodePath) (s : Spending)
     : Type 0 where
   pub outcomes : List (Outcome ℕ)
@@ -56,8 +57,8 @@ pub record HashesDeep {B : Type 0} (v : Nodes B) (c ns : List B) (limit : ℕ) :
   pub over : limit < depth_of outcomes
 
 -- A group is taken: its results, put in hash order, have made the canonical issuer d of c.
-pub record AnswersRound {B : Type 0} (v : Nodes B) (c members d : List B) (tie : Bool) (s : Spending)
-    : Type 0 where
+pub record AnswersRound {B : Type 0} (v : Nodes B) (c members d : List B) (tie : Bool)
+    (s : Spending) : Type 0 where
   pub outcomes : List (Outcome B)
   pub sorted : List (Outcome B)
   pub hashed : AllZip (HashesAlone v c) (lacking v c members) outcomes
@@ -69,8 +70,8 @@ pub record AnswersRound {B : Type 0} (v : Nodes B) (c members d : List B) (tie :
   pub within : depth_of outcomes ≤ s.limit
 
 -- Issuer, tie and work are those of one run, and neither its work nor its depth is over its limit.
-pub record AnswersNumbers {B : Type 0} (v : Nodes B) (limits : Limits) (issuer : List B) (tie : Bool)
-    (work : ℕ) : Type 0 where
+pub record AnswersNumbers {B : Type 0} (v : Nodes B) (limits : Limits) (issuer : List B)
+    (tie : Bool) (work : ℕ) : Type 0 where
   pub run : RunOutcome B
   pub is_run : IsRun v run
   pub issuer_is : issuer ≡ run.issuer

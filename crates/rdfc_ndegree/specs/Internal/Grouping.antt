@@ -17,7 +17,8 @@ last_has_hash [] hash = false
 last_has_hash (g ∷ []) hash = bytes_eq g.hash hash
 last_has_hash (g ∷ k ∷ gs) hash = last_has_hash (k ∷ gs) hash
 
--- the groups with a node that comes after all theirs: in the last one if it has its hash, and else in its own
+-- the groups with a node that comes after all theirs: in the last one if it has its hash, and else
+-- in its own
 abbrev pub add_to_groups : {B : Type 0} → List (Group B) → NodeHash B → List (Group B)
 add_to_groups [] h = group_of_one h ∷ []
 add_to_groups (g ∷ []) h =

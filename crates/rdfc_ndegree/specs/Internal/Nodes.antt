@@ -7,4 +7,5 @@ use Rattle.rdfc_ndegree.specs.Nodes.{Occurrence, Nodes}
 pub record AreNodes {B : Type 0} (v : Nodes B) : Type 0 where
   pub equal : (x y : B) → (v.same x y ≡ true) ↔ (x ≡ y)
   pub differ : AllDiffer v.all
-  pub closed : (n : B) → Contains v.all n → All (λ (o : Occurrence B). Contains v.all o.blank) (v.related n)
+  pub closed : (n : B) → Contains v.all n
+      → All (λ (o : Occurrence B). Contains v.all o.blank) (v.related n)

@@ -1,30 +1,14 @@
--- The sequences of a list's numbers in lexicographic order, and the step from one to the next.
-use Rattle.std.specs.Prelude.{◌≡◌, ◌<◌, ◌≤◌, ◌+◌, ◌++◌, ℕ, List, [], ◌∷◌, Bool, true, false, Option, Some, None, map, filter, flat_map, length, reverse, slice_index, drop}
+-- The step from one sequence of a list's numbers to the next in lexicographic order.
+use Rattle.std.specs.Prelude.{◌≡◌, ◌<◌, ◌≤◌, ◌+◌, ◌++◌, ℕ, List, [], ◌∷◌, Bool, true, false, Option, Some, None, length, reverse, slice_index, drop}
 use Rattle.std.specs.List.{AllByRecursion}
-use Rattle.base_types.specs.Order.{is_upto, sorted_set}
-
--- x at each place of the list in turn
-abbrev pub put_everywhere : ℕ → List ℕ → List (List ℕ)
-put_everywhere x [] = (x ∷ []) ∷ []
-put_everywhere x (y ∷ ys) = (x ∷ (y ∷ ys)) ∷ map (λ zs. y ∷ zs) (put_everywhere x ys)
-
--- the list in every order
-unfoldable pub orders_of : List ℕ → List (List ℕ)
-orders_of [] = [] ∷ []
-orders_of (x ∷ xs) = flat_map (put_everywhere x) (orders_of xs)
-
--- the distinct sequences of the numbers of p from p on, in lexicographic order; none where all are over
-abbrev pub left_from : Bool → List ℕ → List (List ℕ)
-left_from true p = []
-left_from false p = filter (is_upto p) (sorted_set (orders_of p))
 
 -- each number is at least every later one
 abbrev pub Falls : List ℕ → Type 0
 Falls [] = Unit {0}
 Falls (x ∷ xs) = AllByRecursion (λ y. y ≤ x) xs × Falls xs
 
--- The step to the next sequence: the numbers behind x fall, y is the last of them above x, and after the
--- step y stands in the place of x and the others rise.
+-- The step to the next sequence: the numbers behind x fall, y is the last of them above x, and
+-- after the step y stands in the place of x and the others rise.
 pub record IsStep (old new : List ℕ) : Type 0 where
   pub before : List ℕ
   pub pivot : ℕ

@@ -1,5 +1,5 @@
 use Rattle.std.proofs.Common.{◌≡◌, drop}
-use Rattle.rdfc_ndegree.specs.NumberIssuers.{issue_numbers}
+use Rattle.rdfc_ndegree.specs.Internal.Issuing.{issue_numbers}
 use Rattle.rdfc_canon.proofs.naming.issue_nodes.Given as goal
 
 abbrev pub invariant-loop-node : goal.invariant-loop-node

@@ -3,7 +3,7 @@ use Rattle.rdfc_ndegree.specs.Table.{group_in}
 use Rattle.rdfc_ndegree.specs.Run.{alone}
 use Rattle.rdfc_ndegree.proofs.Loops.{handed_on}
 use Rattle.rdfc_ndegree.proofs.TableCarry.{table-lawful}
-use Rattle.rdfc_ndegree.specs.NumberIssuers.{issue_numbers}
+use Rattle.rdfc_ndegree.specs.Internal.Issuing.{issue_numbers}
 use Rattle.rdfc_canon.proofs.Runs.{run-start, run-turn, run-fault, run-finish}
 use Rattle.rdfc_canon.proofs.numbering.run.Goals as goal
 

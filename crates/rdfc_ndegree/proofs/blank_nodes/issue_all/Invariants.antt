@@ -1,5 +1,5 @@
 use Rattle.std.proofs.Common.{◌≡◌, drop}
-use Rattle.rdfc_ndegree.specs.NumberIssuers.{issue_numbers}
+use Rattle.rdfc_ndegree.specs.Internal.Issuing.{issue_numbers}
 use Rattle.rdfc_ndegree.proofs.blank_nodes.issue_all.Given as goal
 
 abbrev pub invariant-loop-number : goal.invariant-loop-number

@@ -7,4 +7,4 @@ pub returns-clause-table : goal.returns-clause-table
 returns-clause-table c = λ q cs is are all. c.in_ok-table.ensures.table q cs is are (c.as_slice.ensures.value ∙ c.in_ok-others.ensures ∙ all)
 
 pub returns-clause-node : goal.returns-clause-node
-returns-clause-node c = last-named (names_of c.in_ok-table.table) c.as_slice.result.now c.args.canonical.now c.args.issuer.now c.args.node.now (c.as_slice.ensures.value ∙ c.in_ok-others.ensures) c.in_ok-table.ensures.named
+returns-clause-node c = last-named (names_of c.in_ok-table.table) c.as_slice.result.now c.args.canonical.now c.args.issuer.now c.args.node.now (c.as_slice.ensures.value ∙ c.in_ok-others.ensures) c.in_ok-table.ensures.others

@@ -1,6 +1,7 @@
 use Rattle.std.proofs.Common.{◌≡◌, ◌∷◌, ◌∙◌, ap, sym, subst, not, rules, length, take, drop, ◌++◌}
 use Rattle.std.proofs.lemmas.List.{take_at}
-use Rattle.rdfc_ndegree.specs.Internal.Sequences.{left_from, Advances}
+use Rattle.rdfc_ndegree.specs.Sequences.{left_from}
+use Rattle.rdfc_ndegree.specs.Internal.Sequences.{Advances}
 use Rattle.rdfc_ndegree.proofs.NextSequence.{left-advance}
 use Rattle.rdfc_ndegree.proofs.arrangements.Arrangements.next.Goals as goal
 

@@ -1,65 +1,55 @@
 -- Runs on small datasets that compute, with a digest that leaves a text as it is: a wrong definition fails here.
 use Rattle.std.proofs.Common.{◌≡◌, ℕ, List, [], ◌∷◌, true, false, refl, None, codes}
 use Rattle.std.specs.Fmt.{digits}
-use Rattle.nquads.specs.Terms.{by_label, Blank, iri, blank, Statement}
-use Rattle.rdfc_ndegree.specs.Run.{RunOutcome, run_end}
 use Rattle.rdfc_ndegree.proofs.Lawful.{nodes-lawful}
 use Rattle.rdfc_ndegree.proofs.Exists.{run-exists, rounds-exist, in_hash_order, put_result, results-exist, IsNDegree-exists, within_exists, call_if, groups_if, choice_if, IsChoice-from_trails, trails_if, evaluates_if, nested_if, best_of_some, best_among, better}
+use Rattle.nquads.specs.Terms.{Statement}
+use Rattle.rdfc_ndegree.specs.Datasets.{nodes_of}
+use Rattle.rdfc_ndegree.specs.Run.{IsRun}
+use Rattle.rdfc_canon.specs.Worked.{edge, leaf, HasRun}
 
-abbrev pub unchanged : List ℕ → List ℕ
-unchanged text = text
+abbrev a : List ℕ
+a = codes "a"
 
-abbrev pub run : List Statement → RunOutcome Blank
-run q = (run-exists (nodes-lawful unchanged q)).0
+abbrev b : List ℕ
+b = codes "b"
 
-abbrev pub labelled : ℕ → Blank
-labelled letter = record { kind = by_label; name = letter ∷ [] }
+abbrev c : List ℕ
+c = codes "c"
 
-abbrev pub a : Blank
-a = labelled 97
+abbrev d : List ℕ
+d = codes "d"
 
-abbrev pub b : Blank
-b = labelled 98
-
-abbrev pub c : Blank
-c = labelled 99
-
-abbrev pub d : Blank
-d = labelled 100
-
--- a statement of p between two blank nodes, and one about an IRI
-abbrev pub between : Blank → Blank → Statement
-between x y = record { subject = blank x; predicate = codes "p"; object = blank y; graph = None }
-
-abbrev pub about_iri : Blank → Statement
-about_iri x = record { subject = blank x; predicate = codes "p"; object = iri (codes "o"); graph = None }
+-- the run that the existence of runs computes
+its_run : (q : List Statement) → IsRun (nodes_of (λ text. text) q) (run-exists (nodes-lawful (λ text. text) q)).0
+its_run q = (run-exists (nodes-lawful (λ text. text) q)).1
 
 -- no blank node
-pub none-row : run [] ≡ run_end []
+pub none-row : HasRun ([]) ([]) false 0 0
 unfolding run-exists rounds-exist in_hash_order put_result results-exist IsNDegree-exists within_exists call_if groups_if choice_if IsChoice-from_trails trails_if evaluates_if nested_if best_of_some best_among better digits
-none-row = refl
+none-row = its_run ([])
 
 -- each blank node has a first-degree hash of its own: no call is made
-pub chain-row : run (between a b ∷ []) ≡ run_end (a ∷ b ∷ [])
+pub chain-row : HasRun (edge a b ∷ []) (a ∷ b ∷ []) false 0 0
 unfolding run-exists rounds-exist in_hash_order put_result results-exist IsNDegree-exists within_exists call_if groups_if choice_if IsChoice-from_trails trails_if evaluates_if nested_if best_of_some best_among better digits
-chain-row = refl
+chain-row = its_run (edge a b ∷ [])
 
 -- two blank nodes that nothing tells apart, with no related node: a tie of two results
-pub twins-row : run (about_iri a ∷ about_iri b ∷ []) ≡ record { issuer = a ∷ b ∷ []; tie = true; work = 0; depth = 1 }
+pub twins-row : HasRun (leaf a ∷ leaf b ∷ []) (a ∷ b ∷ []) true 0 1
 unfolding run-exists rounds-exist in_hash_order put_result results-exist IsNDegree-exists within_exists call_if groups_if choice_if IsChoice-from_trails trails_if evaluates_if nested_if best_of_some best_among better digits
-twins-row = refl
+twins-row = its_run (leaf a ∷ leaf b ∷ [])
 
 -- two that stand beside each other: each call makes a nested one
-pub pair-row : run (between a b ∷ between b a ∷ []) ≡ record { issuer = a ∷ b ∷ []; tie = true; work = 8; depth = 2 }
+pub pair-row : HasRun (edge a b ∷ edge b a ∷ []) (a ∷ b ∷ []) true 8 2
 unfolding run-exists rounds-exist in_hash_order put_result results-exist IsNDegree-exists within_exists call_if groups_if choice_if IsChoice-from_trails trails_if evaluates_if nested_if best_of_some best_among better digits
-pair-row = refl
+pair-row = its_run (edge a b ∷ edge b a ∷ [])
 
 -- the two inner ones of four in a row have one first-degree hash, and their calls tell them apart
-pub row-row : run (between a b ∷ between b c ∷ between c d ∷ []) ≡ record { issuer = a ∷ d ∷ b ∷ c ∷ []; tie = false; work = 8; depth = 2 }
+pub row-row : HasRun (edge a b ∷ edge b c ∷ edge c d ∷ []) (a ∷ d ∷ b ∷ c ∷ []) false 8 2
 unfolding run-exists rounds-exist in_hash_order put_result results-exist IsNDegree-exists within_exists call_if groups_if choice_if IsChoice-from_trails trails_if evaluates_if nested_if best_of_some best_among better digits
-row-row = refl
+row-row = its_run (edge a b ∷ edge b c ∷ edge c d ∷ [])
 
 -- three, each beside each other one: the two arrangements of a group have one path
-pub triangle-row : run (between a b ∷ between b a ∷ between b c ∷ between c b ∷ between a c ∷ between c a ∷ []) ≡ record { issuer = a ∷ b ∷ c ∷ []; tie = true; work = 60; depth = 2 }
+pub triangle-row : HasRun (edge a b ∷ edge b a ∷ edge b c ∷ edge c b ∷ edge a c ∷ edge c a ∷ []) (a ∷ b ∷ c ∷ []) true 60 2
 unfolding run-exists rounds-exist in_hash_order put_result results-exist IsNDegree-exists within_exists call_if groups_if choice_if IsChoice-from_trails trails_if evaluates_if nested_if best_of_some best_among better digits
-triangle-row = refl
+triangle-row = its_run (edge a b ∷ edge b a ∷ edge b c ∷ edge c b ∷ edge a c ∷ edge c a ∷ [])
