@@ -1,17 +1,15 @@
 -- What a run over the table of a dataset says of the dataset.
-use Rattle.std.proofs.Common.{◌≡◌, ◌↔◌, ℕ, List, [], map, All, Contains, Bool, true, false, refl, sym, ap, ◌∙◌, subst, ⊎_elim, ◌⊎◌}
+use Rattle.std.proofs.Common.{◌≡◌, ◌↔◌, ℕ, List, [], map, All, Contains, true, false, refl, sym, ap, ◌∙◌, subst, ⊎_elim, ◌⊎◌}
 use Rattle.std.proofs.lemmas.List.Elements.{All-weaker}
 use Rattle.base_types.specs.Sets.{AllDiffer}
 use Rattle.base_types.proofs.Lists.{Contains-nil, Contains-map, Contains-from_map}
 use Rattle.digest_mac.specs.Digests.{sha256_digits}
 use Rattle.nquads.specs.Terms.{Blank, Statement}
 use Rattle.nquads.specs.Renaming.{StandsIn}
-use Rattle.nquads.specs.Spelling.{blank_text, text_quad}
+use Rattle.nquads.specs.Spelling.{blank_text}
 use Rattle.nquads.specs.Lines.{canonical_lines}
-use Rattle.nquads.specs.Texts.{label_in, Names}
+use Rattle.nquads.specs.Texts.{label_in}
 use Rattle.nquads.specs.declared.hashes.BlankHash.{BlankHash}
-use Rattle.nquads.specs.declared.labels.TextLabel.{TextLabel}
-use Rattle.nquads.specs.declared.quads.TextQuad.{TextQuad}
 use Rattle.nquads.proofs.ReadingTerms.{blank_text_one_reading}
 use Rattle.nquads.proofs.ReadingElements.{AllDiffer-map}
 use Rattle.rdfc_ndegree.specs.Internal.Evaluations.{IsFaultOf}

@@ -1,20 +1,19 @@
 -- Canonical identifiers are labels that differ, so a canonical text is that of one dataset, up to blank nodes.
-use Rattle.std.proofs.Common.{◌≡◌, ◌↔◌, ℕ, ◌+◌, ◌-◌, ◌^◌, ◌<◌, ◌≤◌, ◌%◌, ◌/◌, ◌==◌, List, [], ◌∷◌, ◌++◌, length, All, Contains, Bool, true, false, codes, decimal, drop, refl, sym, ap, ◌∙◌, subst, arith}
+use Rattle.std.proofs.Common.{◌≡◌, ℕ, ◌+◌, ◌-◌, ◌^◌, ◌<◌, ◌≤◌, ◌%◌, ◌==◌, List, [], ◌∷◌, ◌++◌, length, All, true, false, codes, decimal, drop, refl, sym, ap, ◌∙◌, arith}
 use Rattle.std.specs.List.{AllByRecursion}
 use Rattle.std.proofs.lemmas.Bool.{false≢true, false_from_ne_true}
 use Rattle.std.proofs.lemmas.Bool.Decides.{Decides-eqb, nat_tests}
 use Rattle.std.proofs.lemmas.Fmt.{decimal_by_steps, decimal_injective}
 use Rattle.std.proofs.lemmas.List.Elements.{All-from_recursion}
-use Rattle.base_types.specs.Sets.{AllDiffer}
-use Rattle.nquads.specs.Terms.{Blank, Statement, IsStatement, IsDataset, IsLabel, is_digit, is_label_character}
-use Rattle.nquads.specs.Renaming.{Same, StandsIn, blanks_of}
+use Rattle.nquads.specs.Terms.{Blank, Statement, IsStatement, IsDataset, IsLabel, is_label_character}
+use Rattle.nquads.specs.Renaming.{Same, StandsIn}
 use Rattle.nquads.specs.Lines.{canonical_text, HasLabels, LabelsDiffer}
 use Rattle.nquads.proofs.ReadingBlanks.{to_blanks_in}
 use Rattle.nquads.proofs.ReadingElements.{All-from_contains}
 use Rattle.nquads.proofs.ReadingSame.{text_determines_dataset}
 use Rattle.rdfc_ndegree.specs.Issuers.{has, number, canonical_id}
 use Rattle.rdfc_ndegree.specs.Datasets.{nodes_of}
-use Rattle.rdfc_ndegree.specs.Run.{RunOutcome, IsRun, MeetsTie, IsCanonicalIssuer}
+use Rattle.rdfc_ndegree.specs.Run.{RunOutcome, IsRun, IsCanonicalIssuer}
 use Rattle.rdfc_ndegree.proofs.Labels.{issuer-covers}
 use Rattle.rdfc_ndegree.proofs.Lawful.{nodes-lawful, blanks-all}
 use Rattle.rdfc_ndegree.proofs.Membership.{has-from_contains, number-below, number-once}

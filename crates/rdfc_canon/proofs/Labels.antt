@@ -1,25 +1,24 @@
 -- The labels that a canonical issuer gives: each found by its blank node's text, and all of them in order.
-use Rattle.std.proofs.Common.{◌≡◌, ℕ, suc, ◌<◌, ◌==◌, List, [], ◌∷◌, ◌++◌, map, length, All, Contains, Bool, true, false, cond, bytes_eq, Option, Some, None, slice_get, codes, decimal, refl, sym, ap, ◌∙◌, subst, ⊎_elim, arith, append-nil, append_assoc}
-use Rattle.std.specs.Option.{is_some, option_map, unwrap_or, IfSome}
+use Rattle.std.proofs.Common.{◌≡◌, ℕ, suc, ◌<◌, List, [], ◌∷◌, ◌++◌, map, length, Contains, Bool, true, false, cond, bytes_eq, Some, None, slice_get, codes, decimal, refl, sym, ap, ◌∙◌, subst, ⊎_elim, arith, append-nil, append_assoc}
+use Rattle.std.specs.Option.{is_some, unwrap_or}
 use Rattle.std.specs.List.{AllByRecursion}
 use Rattle.std.proofs.lemmas.Bool.{false≢true, false_from_ne_true}
-use Rattle.std.proofs.lemmas.Bool.Decides.{Decides-eqb}
 use Rattle.std.proofs.lemmas.Option.{slice_get-get_or}
 use Rattle.std.proofs.lemmas.List.{map-append, length-append, length-map}
-use Rattle.std.proofs.lemmas.List.Elements.{Contains-append_left, Contains-append_right}
+use Rattle.std.proofs.lemmas.List.Elements.{Contains-append_left}
 use Rattle.std.proofs.lemmas.List.Sorted.{IsPermutation-middle}
 use Rattle.base_types.specs.Order.{sorted_set}
 use Rattle.base_types.specs.Sets.{AllDiffer}
 use Rattle.base_types.proofs.Lists.{Contains-here, Contains-there, Contains-cons_cases, Contains-nil, Contains-from_map, AllByRecursion-contains, map-map}
 use Rattle.digest_mac.specs.Digests.{sha256_digits}
-use Rattle.nquads.specs.Terms.{Blank, Term, iri, literal, blank, Statement}
-use Rattle.nquads.specs.Renaming.{StandsIn, blanks_of, blanks_of_term, blanks_of_graph}
-use Rattle.nquads.specs.Spelling.{blank_text, spelling, text_quad}
+use Rattle.nquads.specs.Terms.{Blank, Statement}
+use Rattle.nquads.specs.Renaming.{StandsIn, blanks_of}
+use Rattle.nquads.specs.Spelling.{blank_text}
 use Rattle.nquads.specs.Lines.{line, canonical_lines}
-use Rattle.nquads.specs.Texts.{label, find_label, label_in, IsNamed, Names}
+use Rattle.nquads.specs.Texts.{label, find_label, label_in}
 use Rattle.nquads.specs.declared.labels.TextLabel.{TextLabel}
-use Rattle.nquads.proofs.ReadingBlanks.{same_blank-true, same_blank-itself, to_blanks_in}
-use Rattle.nquads.proofs.ReadingElements.{AllDiffer-head, All-from_contains}
+use Rattle.nquads.proofs.ReadingBlanks.{same_blank-true, same_blank-itself}
+use Rattle.nquads.proofs.ReadingElements.{AllDiffer-head}
 use Rattle.rdfc_first.proofs.MentionLines.{same_text}
 use Rattle.rdfc_ndegree.specs.Issuers.{has, canonical_id}
 use Rattle.rdfc_ndegree.specs.Table.{numbers_below}

@@ -1,5 +1,5 @@
 -- Runs on small datasets that compute, with a digest that leaves a text as it is: a wrong definition fails here.
-use Rattle.std.proofs.Common.{◌≡◌, ℕ, List, [], ◌∷◌, true, false, refl, None, codes}
+use Rattle.std.proofs.Common.{ℕ, List, [], ◌∷◌, true, false, codes}
 use Rattle.std.specs.Fmt.{digits}
 use Rattle.rdfc_ndegree.proofs.Lawful.{nodes-lawful}
 use Rattle.rdfc_ndegree.proofs.Exists.{run-exists, rounds-exist, in_hash_order, put_result, results-exist, IsNDegree-exists, within_exists, call_if, groups_if, choice_if, IsChoice-from_trails, trails_if, evaluates_if, nested_if, best_of_some, best_among, better}

@@ -1,5 +1,5 @@
 -- What canonicalization answers. RDF Canonicalization, 4.4.
-use Rattle.std.specs.Prelude.{◌≡◌, ◌≤◌, ◌↔◌, ℕ, List, ◌++◌, Bool, map, length, codes, decimal, Contains}
+use Rattle.std.specs.Prelude.{◌≡◌, ◌≤◌, ◌↔◌, ℕ, List, ◌++◌, map, length, codes, decimal, Contains}
 use Rattle.base_types.specs.Sets.{AllDiffer}
 use Rattle.digest_mac.specs.Digests.{sha256_digits}
 use Rattle.nquads.specs.Terms.{Blank, Statement}

@@ -93,10 +93,10 @@ pub fn worked_runs()
     ensures pair { HasRun (edge (codes "a") (codes "b") ∷ edge (codes "b") (codes "a") ∷ [])
         (codes "a" ∷ codes "b" ∷ []) true 8 2 }
     ensures row { HasRun (edge (codes "a") (codes "b") ∷ edge (codes "b") (codes "c") ∷
-            edge (codes "c") (codes "d") ∷ [])
+        edge (codes "c") (codes "d") ∷ [])
         (codes "a" ∷ codes "d" ∷ codes "b" ∷ codes "c" ∷ []) false 8 2 }
     ensures triangle { HasRun (edge (codes "a") (codes "b") ∷ edge (codes "b") (codes "a") ∷
-            edge (codes "b") (codes "c") ∷ edge (codes "c") (codes "b") ∷
-            edge (codes "a") (codes "c") ∷ edge (codes "c") (codes "a") ∷ [])
+        edge (codes "b") (codes "c") ∷ edge (codes "c") (codes "b") ∷
+        edge (codes "a") (codes "c") ∷ edge (codes "c") (codes "a") ∷ [])
         (codes "a" ∷ codes "b" ∷ codes "c" ∷ []) true 60 2 }
 {}

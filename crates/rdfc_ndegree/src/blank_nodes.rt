@@ -50,22 +50,22 @@ pub fn n_degree(
         → IfOk result (λ _. meter.new.spent ≤ meter.old.limits.work) }
     ensures ok { (q : List Statement) (n : Blank) (c i : List Blank)
         → IsSpelledCall q n c i
-            (call_texts quads.now firsts.now canonical.now.order node.now issuer.order)
+        (call_texts quads.now firsts.now canonical.now.order node.now issuer.order)
         → IfOk result (λ p. (j : List Blank) × (p.issuer.order ≡ map blank_text j)
-            × AnswersCall (nodes_of sha256_digits q) c n i (answer p.hash j p.tie)
-            (spending meter.old meter.new depth)) }
+        × AnswersCall (nodes_of sha256_digits q) c n i (answer p.hash j p.tie)
+        (spending meter.old meter.new depth)) }
     ensures work { (q : List Statement) (n : Blank) (c i : List Blank)
         → IsSpelledCall q n c i
-            (call_texts quads.now firsts.now canonical.now.order node.now issuer.order)
+        (call_texts quads.now firsts.now canonical.now.order node.now issuer.order)
         → (limit : ℕ) → result ≡ Err (CanonFault.TooMuchWork limit)
         → (limit ≡ meter.old.limits.work)
-            × CallOver (nodes_of sha256_digits q) c n i meter.old.spent limit }
+        × CallOver (nodes_of sha256_digits q) c n i meter.old.spent limit }
     ensures deep { (q : List Statement) (n : Blank) (c i : List Blank)
         → IsSpelledCall q n c i
-            (call_texts quads.now firsts.now canonical.now.order node.now issuer.order)
+        (call_texts quads.now firsts.now canonical.now.order node.now issuer.order)
         → (limit : ℕ) → result ≡ Err (CanonFault.TooDeep limit)
         → (limit ≡ meter.old.limits.depth)
-            × CallDeep (nodes_of sha256_digits q) c n i depth limit }
+        × CallDeep (nodes_of sha256_digits q) c n i depth limit }
 {
     let CallByNumber {
         table,

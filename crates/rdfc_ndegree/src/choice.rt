@@ -60,7 +60,7 @@ impl Best {
             → evaluation.path ≡ t.path → evaluation.issuer ≡ t.issuer
             → evaluation.ties.items ≡ t.ties
             → IsBestOf (ts ++ t ∷ [])
-                self.new.path self.new.issuer self.new.sharing self.new.ties.items) }
+            self.new.path self.new.issuer self.new.sharing self.new.ties.items) }
     {
         let Evaluation {
             path,

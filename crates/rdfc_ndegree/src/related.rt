@@ -63,7 +63,7 @@ fn related_hashes(
 ) -> Result<Vec<HashedNode>, Memory>
     ensures { IfOk result (λ hs. map node_hash hs.items
         ≡ map (with_related_hash (table_nodes table.now) canonical.now issuer.now)
-            (map occurrence_of related.now)) }
+        (map occurrence_of related.now)) }
 {
     let mut hashed = Vec::new(alloc);
     for occurrence in related {
@@ -109,7 +109,7 @@ fn push_identifier_or_hash(
 ) -> Result<(), Memory>
     ensures { OnOk result (text.new.items
         ≡ text.old.items
-            ++ identifier_or_hash (table_nodes table.now) canonical.now issuer.now node) }
+        ++ identifier_or_hash (table_nodes table.now) canonical.now issuer.now node) }
 {
     if let Some(number) = canonical.number(node) {
         return push_canonical(alloc, text, number);

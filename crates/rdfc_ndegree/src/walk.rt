@@ -35,7 +35,7 @@ pub fn walk_over(
         (w.path ≡ first_path (table_nodes rows) canonical.now issuer.now members.now)
         × (w.issuer ≡ issuer_copy (table_nodes rows) canonical.now issuer.now members.now)
         × (w.recursion_list
-            ≡ recursion_list (table_nodes rows) canonical.now issuer.now members.now)) }
+        ≡ recursion_list (table_nodes rows) canonical.now issuer.now members.now)) }
 {
     let mut path = Vec::new(alloc);
     let mut issuer_copy = issuer.to_vec(alloc)?;

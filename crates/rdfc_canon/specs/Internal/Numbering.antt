@@ -1,13 +1,13 @@
 -- The run over the numbers of a table: what each part of it answers.
 -- RDF Canonicalization, 4.4.3, steps 3 to 5.
-use Rattle.std.specs.Prelude.{◌≡◌, ◌<◌, ◌≤◌, ◌+◌, ◌==◌, ◌||◌, ℕ, max, List, [], ◌∷◌, ◌++◌, Bool, false, bytes_eq, if◌then◌else◌, IsPermutation}
-use Rattle.std.specs.List.{AllZip, list_any}
+use Rattle.std.specs.Prelude.{◌≡◌, ◌<◌, ◌≤◌, ◌+◌, ◌||◌, ℕ, List, [], ◌∷◌, Bool, false, bytes_eq, IsPermutation}
+use Rattle.std.specs.List.{AllZip}
 use Rattle.rdfc_ndegree.specs.Nodes.{Nodes}
 use Rattle.rdfc_ndegree.specs.Answers.{Spending}
 use Rattle.rdfc_ndegree.specs.declared.limits.Limits.{Limits}
 use Rattle.rdfc_ndegree.specs.Internal.Issuing.{issue_numbers}
 use Rattle.rdfc_ndegree.specs.NDegree.{Outcome, IsNDegree}
-use Rattle.rdfc_ndegree.specs.Run.{RunOutcome, IsRun, Rounds, lacking, take_issuers, InHashOrder, results_tie, work_of, depth_of}
+use Rattle.rdfc_ndegree.specs.Run.{RunOutcome, IsRun, lacking, take_issuers, InHashOrder, results_tie, work_of, depth_of}
 use Rattle.rdfc_ndegree.specs.declared.path.NodePath.{NodePath}
 
 -- the same for each result in order, with the nodes of its issuer

@@ -4,7 +4,7 @@ use Rattle.nquads.specs.FirstDegree.{AreFirstHashes}
 use Rattle.rdfc_ndegree.specs.declared.limits.CanonFault.TheVariants as fault
 use Rattle.rdfc_canon.specs.Internal.Labelling.{all_labels}
 use Rattle.rdfc_canon.proofs.Clauses.{fault-there}
-use Rattle.rdfc_canon.proofs.Answering.{Answered, is-canon, fault-carried}
+use Rattle.rdfc_canon.proofs.Answering.{is-canon, fault-carried}
 use Rattle.rdfc_canon.proofs.canon.canonical_form.Goals as goal
 
 pub returns-in_err-firsts : goal.returns-in_err-firsts
