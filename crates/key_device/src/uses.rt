@@ -71,7 +71,8 @@ pub fn sign_with_fresh_key<D: KeyDevice>(
 
 /// Signs `bytes` under `key`, then makes a secret and a fresh key and signs `others` under both
 /// keys, and checks the first signature last: it is still accepted, since no call withdraws
-/// acceptance, and `key` is still owned, since no call withdraws ownership.
+/// acceptance, and `key` is still owned, since no call withdraws ownership. The log has grown by
+/// the three signatures alone, and an exact device is still exact.
 pub fn sign_among_others<D: KeyDevice>(
     device: &mut D,
     key: &KeyName,
@@ -82,6 +83,12 @@ pub fn sign_among_others<D: KeyDevice>(
     ensures no_key { IsErrOf result NoKey → (D.means device.old).owns key.now ≡ false }
     ensures acceptance { StillAccepts (D.means device.old) (D.means device.new) }
     ensures ownership { StillOwns (D.means device.old) (D.means device.new) }
+    ensures exact { (D.means device.old).exact ≡ true → MeansItsLog (D.means device.new) }
+    ensures grew { OnOk result (IfSome (D.means device.old).log (λ entries.
+        (a : SignedEntry) × (b : SignedEntry) × (c : SignedEntry)
+        × ((D.means device.new).log ≡ Some (entries ++ a ∷ b ∷ c ∷ [])))) }
+    ensures failed { IsErrOf result Failed → CountsFault (D.means device.old) (D.means device.new) }
+    ensures counted { (D.means device.old).faults ≤ (D.means device.new).faults }
 {
     let signature = device.sign(key, bytes)?;
     device.fresh_secret()?;

@@ -1,8 +1,8 @@
 -- A good proof that a history covers names one record of it.
-use Rattle.std.proofs.Common.{◌≡◌, ℕ, true, List, [], ◌∷◌, map, All, Contains, inl, inr, sym, ◌∙◌, subst}
+use Rattle.std.proofs.Common.{◌≡◌, ℕ, true, List, [], ◌∷◌, map, All, Contains, inl, inr, sym, ap, ◌∙◌, subst, slice_get}
 use Rattle.std.specs.List.{AllZip}
 use Rattle.std.proofs.lemmas.List.Elements.{All-contains}
-use Rattle.base_types.proofs.Lists.{Contains-here, Contains-there, Contains-map, Contains-nil, Contains-cons_cases}
+use Rattle.base_types.proofs.Lists.{Contains-here, Contains-there, Contains-map, Contains-nil, Contains-cons_cases, same_some}
 use Rattle.key_device.specs.Devices.{Acceptance}
 use Rattle.nquads.specs.Lines.{IsLine}
 use Rattle.nquads.proofs.ReadingElements.{All-from_contains}
@@ -124,3 +124,9 @@ module _ (history : List BaseRecord) (accepts : Acceptance) (v : VerifyData) (g 
           options_lines = sym (options_are o option_lines);
         };
       }
+
+-- two named records are one
+pub one_named : (history : List BaseRecord) (v : VerifyData) (m n : NamesOne history v) → m.one ≡ n.one
+one_named history v m n =
+    let place : m.only.place ≡ n.only.place = n.only.only m.only.place m.one m.only.stands m.only.issuer_is m.only.key_is in
+    same_some (slice_get history m.only.place) m.one n.one m.only.stands (ap (slice_get history) place ∙ n.only.stands)

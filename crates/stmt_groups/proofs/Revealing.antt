@@ -8,8 +8,8 @@ use Rattle.base_types.proofs.Orders.{bytes_eq-true, bytes_eq-differ}
 use Rattle.nquads.specs.Terms.{Blank, by_label, IsStatement, Statement}
 use Rattle.nquads.specs.Renaming.{Same, StandsIn, blanks_of, rename}
 use Rattle.nquads.specs.Lines.{HasLabels, canonical_lines, line, with_labels}
-use Rattle.nquads.proofs.ReadingBlanks.{blanks_of-rename, from_blanks_in, rename-rename}
-use Rattle.nquads.proofs.ReadingDatasets.{StandsIn-from_statement, canonical_lines_are_lines}
+use Rattle.nquads.proofs.ReadingBlanks.{blanks_of-rename, from_blanks_in, rename-rename, to_blanks_in}
+use Rattle.nquads.proofs.ReadingDatasets.{canonical_lines_are_lines}
 use Rattle.nquads.proofs.ReadingElements.{All-from_contains, from_rising, to_rising}
 use Rattle.nquads.proofs.ReadingLines.{line_one_reading, statement_from_renamed}
 use Rattle.nquads.proofs.ReadingRenamings.{Same-from_one_to_one}
@@ -70,7 +70,7 @@ module _ (issued document : LabelledDataset) (i : IsLabelled issued) (d : IsLabe
       let same : map (named document.label) (blanks_of s) ≡ map (named issued.label) (blanks_of t) =
       sym (blanks_of-rename (named document.label) s) ∙ ap blanks_of (one_reading s t m n e) ∙ blanks_of-rename (named issued.label) t in
       let r = Contains-from_map (named issued.label) (blanks_of t) (named document.label b) (subst (λ z. Contains z (named document.label b)) same (Contains-map (named document.label) (blanks_of s) b c)) in
-      with_label-found issued.label (flat_map blanks_of issued.statements) (document.label b) b r.0 (StandsIn-from_statement issued.statements t r.0 n r.1) (ap (λ (z : Blank). z.name) r.2)
+      with_label-found issued.label (flat_map blanks_of issued.statements) (document.label b) b r.0 (to_blanks_in issued.statements t r.0 n r.1) (ap (λ (z : Blank). z.name) r.2)
 
   -- a statement with the line of an issued one goes to it
   pub goes_to : (s t : Statement) → Contains document.statements s → Contains issued.statements t → line document.label s ≡ line issued.label t → rename renaming s ≡ t
@@ -81,7 +81,7 @@ module _ (issued document : LabelledDataset) (i : IsLabelled issued) (d : IsLabe
       (λ a b x y k.
       let r = Contains-from_map renaming (blanks_of s) a (subst (λ z. Contains z a) (blanks_of-rename renaming s) x) in
       let stands : StandsIn issued.statements a = subst (StandsIn issued.statements) r.2 (keeps_label s t m n e r.0 r.1).1 in
-      i.differ a b stands (StandsIn-from_statement issued.statements t b n y) (ap (λ (z : Blank). z.name) k))
+      i.differ a b stands (to_blanks_in issued.statements t b n y) (ap (λ (z : Blank). z.name) k))
       (labels ∙ one_reading s t m n e)
 
 -- ---- the record of an issue

@@ -27,6 +27,12 @@ pub fn a_covered_proof_names_one_record()
         → IsCovered history accepts v → NamesOne history v }
 {}
 
+/// What a yes names is one record alone.
+pub fn no_two_records_are_named()
+    ensures { (history : List BaseRecord) (v : VerifyData) (m n : NamesOne history v)
+        → m.one ≡ n.one }
+{}
+
 /// Without a good proof a history names nothing: where nothing is accepted, no record at all covers
 /// what is verified, and it names none.
 pub fn coverage_alone_names_no_record()
