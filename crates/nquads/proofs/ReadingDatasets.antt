@@ -1,11 +1,10 @@
 -- A canonical text determines its lines, and its lines the labelled statements.
-use Rattle.std.proofs.Common.{◌≡◌, ℕ, List, [], ◌∷◌, inl, inr, flat_map, map, All, Contains, sym, ◌∙◌, subst}
-use Rattle.std.proofs.lemmas.List.Elements.{All-contains, Contains-append_left, Contains-append_right}
+use Rattle.std.proofs.Common.{◌≡◌, ℕ, List, map, All, Contains, sym, ◌∙◌, subst}
+use Rattle.std.proofs.lemmas.List.Elements.{All-contains}
 use Rattle.base_types.specs.Sets.{SameElements}
 use Rattle.nquads.specs.Terms.{Blank, Statement, IsStatement}
-use Rattle.nquads.specs.Renaming.{blanks_of, StandsIn}
 use Rattle.nquads.specs.Lines.{line, with_labels, HasLabels, IsLine, LabelsDiffer, canonical_lines, canonical_text}
-use Rattle.base_types.proofs.Lists.{Contains-map, Contains-from_map, Contains-cons_cases, Contains-nil}
+use Rattle.base_types.proofs.Lists.{Contains-map, Contains-from_map}
 use Rattle.nquads.proofs.ReadingElements.{All-from_contains, from_rising, to_rising}
 use Rattle.nquads.proofs.ReadingBlanks.{to_blanks_in}
 use Rattle.nquads.proofs.ReadingLines.{line_one_reading, line_names_statement, IsLine-line, one_split}

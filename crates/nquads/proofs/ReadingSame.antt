@@ -1,5 +1,5 @@
 -- Equal canonical texts and datasets that are the same up to the names of blank nodes.
-use Rattle.std.proofs.Common.{◌≡◌, ℕ, List, [], ◌∷◌, ◌++◌, map, All, Contains, refl, sym, ap, ◌∙◌, subst, Option, Some, None, option_map, codes}
+use Rattle.std.proofs.Common.{◌≡◌, ℕ, List, ◌++◌, map, All, Contains, refl, sym, ap, ◌∙◌, subst, Option, Some, None, option_map, codes}
 use Rattle.base_types.specs.Sets.{SameElements}
 use Rattle.nquads.specs.Terms.{Blank, Term, iri, literal, blank, Statement, IsStatement}
 use Rattle.nquads.specs.Renaming.{rename_term, rename, image, Same}

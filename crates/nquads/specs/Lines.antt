@@ -1,5 +1,5 @@
 -- Canonical lines and the text that they make. RDF Canonicalization, the canonical form of N-Quads.
-use Rattle.std.specs.Prelude.{◌≡◌, ℕ, List, [], ◌∷◌, ◌++◌, map, codes, Contains, Option, Some, None}
+use Rattle.std.specs.Prelude.{◌≡◌, ℕ, List, [], ◌++◌, map, codes, Contains, Option, Some, None}
 use Rattle.std.specs.List.{concat}
 use Rattle.base_types.specs.Order.{sorted_set}
 use Rattle.nquads.specs.Terms.{Blank, by_label, Term, iri, literal, blank, Statement, IsLabel}

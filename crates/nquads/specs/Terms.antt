@@ -1,5 +1,5 @@
 -- Terms, statements and datasets of RDF. RDF 1.1 Concepts and Abstract Syntax, section 3.
-use Rattle.std.specs.Prelude.{◌≡◌, ◌≢◌, ◌-◌, ℕ, List, [], ◌∷◌, ◌++◌, Bool, true, false, ◌&&◌, ◌||◌, ◌==◌, nat_le, All, Option, MatchOption, IfSome, codes, length, slice_index}
+use Rattle.std.specs.Prelude.{◌≡◌, ◌≢◌, ◌-◌, ℕ, List, [], ◌++◌, Bool, true, false, ◌&&◌, ◌||◌, ◌==◌, nat_le, All, Option, MatchOption, IfSome, codes, length, slice_index}
 use Rattle.std.specs.List.{flat_map}
 use Rattle.base_types.specs.Sets.{AllDiffer}
 pub use Rattle.iri_ref.specs.Characters.{is_letter, is_forbidden}

@@ -1,5 +1,5 @@
 -- Labels of blank nodes, as the program keeps them.
-use Rattle.std.specs.Prelude.{◌≡◌, ◌==◌, ℕ, List, [], ◌∷◌, ◌++◌, Bool, codes, Option, Some, None, IsSome, IfSome, unwrap_or, if◌then◌else◌, slice_index}
+use Rattle.std.specs.Prelude.{◌==◌, ℕ, List, [], ◌∷◌, ◌++◌, Bool, codes, Option, Some, None, unwrap_or, if◌then◌else◌, slice_index}
 use Rattle.std.specs.Str.{bytes_eq}
 use Rattle.nquads.specs.Terms.{Blank}
 use Rattle.nquads.specs.Spelling.{blank_text}
@@ -27,16 +27,6 @@ label_in labels b = label_text labels (blank_text b)
 -- whether a part of a text quad is a blank node: such a part alone begins with `_`
 abbrev pub is_blank : List ℕ → Bool
 is_blank part = slice_index part 0 == 95
-
--- a blank node's text has a label
-abbrev pub IsNamed : List TextLabel → List ℕ → Type 0
-IsNamed labels text = slice_index text 0 ≡ 95 → IsSome (find_label labels text)
-
--- the labels name each blank node of the statement
-pub record Names (labels : List TextLabel) (quad : TextQuad) : Type 0 where
-  pub subject : IsNamed labels quad.subject
-  pub object : IsNamed labels quad.object
-  pub graph : IfSome quad.graph (IsNamed labels)
 
 -- A part in a line, where `label` gives the label of a blank node's text: `_:` and the label of a
 -- blank node, and any other part as it is.

@@ -20,6 +20,6 @@ mod tests;
 pub use base_types::{Memory, Sequence, Text};
 pub use hashes::BlankHash;
 pub use labels::{BlankLabels, TextLabel, TextLabels};
-pub use lines::{canonical_lines, is_blank, join, line_of, names, names_all, text_of, write_line};
+pub use lines::{canonical_lines, is_blank, join, line_of, text_of};
 pub use quads::{TextQuad, TextQuads};
 pub use spelling::{iri, literal};

@@ -1,12 +1,12 @@
 //! The lines and the text of a dataset (RDF Dataset Canonicalization, the canonical form of N-Quads).
 
-ghost use Rattle.std.specs.Prelude.{◌≡◌, List, ◌++◌, map, All, IfOk, OnOk, IsTrue, ◌↔◌};
+ghost use Rattle.std.specs.Prelude.{◌≡◌, List, ◌++◌, map, IfOk, OnOk};
 ghost use Rattle.std.specs.List.{concat};
 ghost use Rattle.base_types.specs.Sets.{SameElements};
 ghost use Rattle.nquads.specs.Terms.{Statement};
-ghost use Rattle.nquads.specs.Spelling.{text_quad};
+ghost use Rattle.nquads.specs.Spelling.{blank_text, text_quad};
 ghost use Rattle.nquads.specs.Lines.{line, canonical_lines, canonical_text};
-ghost use Rattle.nquads.specs.Texts.{is_blank, label_in, label_text, IsNamed, Names, graph_part_text, part_text, text_line};
+ghost use Rattle.nquads.specs.Texts.{is_blank, label_in, label_text, graph_part_text, part_text, text_line};
 
 use crate::labels::{BlankLabels, TextLabels};
 use crate::quads::{TextQuad, TextQuads};
@@ -64,20 +64,6 @@ pub fn join(alloc: Global, texts: &[Text]) -> Result<Vec<u8>, Memory>
     Ok(bytes)
 }
 
-/// The canonical line of a statement, LF included, in which each blank node has its label. RDF Dataset
-/// Canonicalization, the canonical form of N-Quads.
-///
-/// # Errors
-///
-/// `Memory`: there is no memory for the line.
-pub fn line_of(alloc: Global, quad: &TextQuad, labels: &TextLabels) -> Result<Text, Memory>
-    ensures { (s : Statement) → quad.now ≡ text_quad s
-        → IfOk result (λ t. t ≡ line (label_in labels.now) s) }
-{
-    let line = write_line(alloc, quad, labels)?;
-    Ok(line)
-}
-
 /// Whether a part of a text quad is a blank node.
 pub fn is_blank(part: &Text) -> bool
     ensures { result ≡ is_blank part.now }
@@ -85,16 +71,22 @@ pub fn is_blank(part: &Text) -> bool
     part.as_bytes().first() == Some(&b'_')
 }
 
-/// The line of a text quad, LF included, with any labels.
+/// The canonical line of a statement, LF included, in which each blank node has its label. RDF Dataset
+/// Canonicalization, the canonical form of N-Quads.
 ///
 /// # Errors
 ///
 /// `Memory`: there is no memory for the line.
-pub fn write_line<L: BlankLabels>(
-    alloc: Global,
-    quad: &TextQuad,
-    labels: &L,
-) -> Result<Text, Memory>
+pub fn line_of<L: BlankLabels>(alloc: Global, quad: &TextQuad, labels: &L) -> Result<Text, Memory>
+    ensures line { (s : Statement) → quad.now ≡ text_quad s
+        → IfOk result (λ t. t ≡ line (λ b. L.label_of labels.now (blank_text b)) s) }
+    ensures text { IfOk result (λ t. t ≡ text_line (L.label_of labels.now) quad.now) }
+{
+    let line = write_line(alloc, quad, labels)?;
+    Ok(line)
+}
+
+fn write_line<L: BlankLabels>(alloc: Global, quad: &TextQuad, labels: &L) -> Result<Text, Memory>
     ensures { IfOk result (λ t. t ≡ text_line (L.label_of labels.now) quad.now) }
 {
     let mut out = text_with_room(alloc, room_for(quad))?;
@@ -107,31 +99,6 @@ pub fn write_line<L: BlankLabels>(
     push_graph(&mut out, &quad.graph, labels)?;
     out.push_str(".\n")?;
     Ok(out)
-}
-
-/// Whether `labels` name each blank node of the statement.
-pub fn names(labels: &TextLabels, quad: &TextQuad) -> bool
-    ensures { IsTrue result ↔ Names labels.now quad.now }
-{
-    is_named(labels, &quad.subject)
-        && is_named(labels, &quad.object)
-        && match &quad.graph {
-            Some(graph) => is_named(labels, graph),
-            None => true,
-        }
-}
-
-/// The same of each statement of a dataset.
-pub fn names_all(labels: &TextLabels, quads: &TextQuads) -> bool
-    ensures { IsTrue result ↔ All (Names labels.now) quads.now }
-{
-    quads.as_slice().iter().all(|quad| names(labels, quad))
-}
-
-fn is_named(labels: &TextLabels, part: &Text) -> bool
-    ensures { IsTrue result ↔ IsNamed labels.now part.now }
-{
-    part.as_bytes().first() != Some(&b'_') || labels.get(part.as_str()).is_some()
 }
 
 /// The line of each statement, in their order.

@@ -6,7 +6,7 @@ ghost use Rattle.rdfc_first.specs.Internal.Mentions.{line_at, graph_lines, objec
 
 use crate::marks::Marks;
 use base_types::{Memory, Text};
-use nquads::{TextQuad, is_blank, write_line};
+use nquads::{TextQuad, is_blank, line_of};
 use std::alloc::Global;
 
 /// The line of a statement that mentions `blank`, with the marks of this blank node. They are ordered
@@ -72,7 +72,7 @@ fn push_line(
         let marks = Marks {
             blank: part.clone()?,
         };
-        let line = write_line(alloc, quad, &marks)?;
+        let line = line_of(alloc, quad, &marks)?;
         let Marks { blank } = marks;
         lines.push(MentionLine { blank, line })?;
     }
