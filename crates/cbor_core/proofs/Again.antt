@@ -69,7 +69,7 @@ unfolding key_at
 key_is total left [] full m some = absurd (omega arith)
 key_is total left (b ∷ bytes) full m some = rw (ne_eqb left 0 (omega arith), m) refl
 
-key_again : (total left key : ℕ) (text rest : List ℕ) → IsHead 0 key text → 0 < left → key_at total left (text ++ rest) ≡ Ok (key, rest)
+pub key_again : (total left key : ℕ) (text rest : List ℕ) → IsHead 0 key text → 0 < left → key_at total left (text ++ rest) ≡ Ok (key, rest)
 key_again total left key text rest s some =
     let first = head_first 0 key rest in
     rw s.1 (key_is total left (head_of 0 key ++ rest) first.0 first.1 some ∙ argument_again total 0 key rest s.0)

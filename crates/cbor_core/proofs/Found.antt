@@ -170,14 +170,14 @@ module _ (total : ℕ) (inner : Reader) (spells : Item → ℕ → List ℕ → 
       })
 
   -- a key is an item
-  record Key (left : ℕ) (bytes : List ℕ) (key : ℕ) (rest : List ℕ) : Type 0 where
-    text : List ℕ
-    spelled : IsHead 0 key text
-    parts : bytes ≡ text ++ rest
-    some : 0 < left
-    fits : IsBytes rest
+  pub record Key (left : ℕ) (bytes : List ℕ) (key : ℕ) (rest : List ℕ) : Type 0 where
+    pub text : List ℕ
+    pub spelled : IsHead 0 key text
+    pub parts : bytes ≡ text ++ rest
+    pub some : 0 < left
+    pub fits : IsBytes rest
 
-  key_takes : (left : ℕ) (bytes : List ℕ) (key : ℕ) (rest : List ℕ) → IsBytes bytes → key_at total left bytes ≡ Ok (key, rest) → Key left bytes key rest
+  pub key_takes : (left : ℕ) (bytes : List ℕ) (key : ℕ) (rest : List ℕ) → IsBytes bytes → key_at total left bytes ≡ Ok (key, rest) → Key left bytes key rest
   unfolding key_at
   key_takes left [] key rest h e = absurd cc
   key_takes left (b ∷ bytes) key rest h e =

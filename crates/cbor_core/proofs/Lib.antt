@@ -9,3 +9,4 @@ pub mod Lawful
 pub mod Sorted
 pub mod Whole
 pub mod Refusing
+pub mod RefusingMaps

@@ -24,7 +24,7 @@ use Rattle.cbor_core.proofs.Steps.{item_as_list, item_as_map, item_as_flat}
 abbrev pub EndsAt : ℕ → Rest → Type 0
 EndsAt total rest = total ≡ rest.at + length rest.bytes
 
-boolean : (b : Bool) → (b ≡ true) ⊎ (b ≡ false)
+pub boolean : (b : Bool) → (b ≡ true) ⊎ (b ≡ false)
 boolean true = inl refl
 boolean false = inr refl
 
@@ -67,26 +67,26 @@ byte_stops total at (b ∷ bytes) e is h =
       | inr p ↦ absurd (cc p.1)
     ]
 
-start_is : (total at b : ℕ) (bytes : List ℕ) → total ≡ at + suc (length bytes) → start_of total (b ∷ bytes) ≡ at
+pub start_is : (total at b : ℕ) (bytes : List ℕ) → total ≡ at + suc (length bytes) → start_of total (b ∷ bytes) ≡ at
 start_is total at b bytes is = omega (arith, is)
 
-argument_refused : (total at b : ℕ) (bytes : List ℕ) (e : CborFault) → total ≡ at + suc (length bytes) → RefusesArgument (b % 32) at bytes e → argument_at total (b ∷ bytes) ≡ Err e
+pub argument_refused : (total at b : ℕ) (bytes : List ℕ) (e : CborFault) → total ≡ at + suc (length bytes) → RefusesArgument (b % 32) at bytes e → argument_at total (b ∷ bytes) ≡ Err e
 unfolding argument_at
 argument_refused total at b bytes e is (inl s) = rw (s.0, start_is total at b bytes is) (byte_refused total at bytes e (omega (arith, is)) s.1)
 argument_refused total at b bytes e is (inr (inl s)) = rw (s.0, start_is total at b bytes is) (wide_refused total w16 (2 ^ 8) at bytes e (omega (arith, is)) s.1)
 argument_refused total at b bytes e is (inr (inr (inl s))) = rw (s.0, start_is total at b bytes is) (wide_refused total w32 (2 ^ 16) at bytes e (omega (arith, is)) s.1)
 argument_refused total at b bytes e is (inr (inr (inr s))) = rw (s.0, start_is total at b bytes is) (wide_refused total w64 (2 ^ 32) at bytes e (omega (arith, is)) s.1)
 
-argument_indefinite : (total at b : ℕ) (bytes : List ℕ) → total ≡ at + suc (length bytes) → 28 ≤ b % 32 → argument_at total (b ∷ bytes) ≡ Err (f.Forbidden at)
+pub argument_indefinite : (total at b : ℕ) (bytes : List ℕ) → total ≡ at + suc (length bytes) → 28 ≤ b % 32 → argument_at total (b ∷ bytes) ≡ Err (f.Forbidden at)
 unfolding argument_at
 argument_indefinite total at b bytes is le =
     rw (le-ltb (b % 32) 24 (omega arith), ne_eqb (b % 32) 24 (λ e. absurd (omega arith)), ne_eqb (b % 32) 25 (λ e. absurd (omega arith)), ne_eqb (b % 32) 26 (λ e. absurd (omega arith)), ne_eqb (b % 32) 27 (λ e. absurd (omega arith)), start_is total at b bytes is) refl
 
 -- what an argument that was not read shows
-abbrev ArgumentStops : ℕ → ℕ → List ℕ → CborFault → Type 0
+abbrev pub ArgumentStops : ℕ → ℕ → List ℕ → CborFault → Type 0
 ArgumentStops at b bytes e = ((28 ≤ b % 32) × (e ≡ f.Forbidden at)) ⊎ ((b % 32 < 28) × RefusesArgument (b % 32) at bytes e)
 
-argument_stops : (total at b : ℕ) (bytes : List ℕ) (e : CborFault) → total ≡ at + suc (length bytes) → argument_at total (b ∷ bytes) ≡ Err e → ArgumentStops at b bytes e
+pub argument_stops : (total at b : ℕ) (bytes : List ℕ) (e : CborFault) → total ≡ at + suc (length bytes) → argument_at total (b ∷ bytes) ≡ Err e → ArgumentStops at b bytes e
 unfolding argument_at
 argument_stops total at b bytes e is h =
     let start = start_is total at b bytes is in
@@ -399,7 +399,7 @@ abbrev pub StopsSo : ℕ → Reader → (Rest → CborFault → Type 0) → Type
 StopsSo total inner Refuses = (rest : Rest) (e : CborFault) → EndsAt total rest → IsBytes rest.bytes → inner rest.left rest.bytes ≡ Err e → Refuses rest e
 
 module _ (total : ℕ) (inner : Reader) (spells : Item → ℕ → List ℕ → Type 0) (Refuses : Rest → CborFault → Type 0) where
-  each_refused : Again inner spells → RefusedSo total inner Refuses → (items : List Item) (n count : ℕ) (front : List ℕ) (rest back : Rest) (done : List Item) (e : CborFault)
+  pub each_refused : Again inner spells → RefusedSo total inner Refuses → (items : List Item) (n count : ℕ) (front : List ℕ) (rest back : Rest) (done : List Item) (e : CborFault)
       → EndsAt total rest → length items < n → EncodesEach spells items count front → IsBehind rest count front back → Refuses back e
       → items_at inner done n rest.left rest.bytes ≡ Err e
   unfolding items_at
@@ -422,7 +422,7 @@ module _ (total : ℕ) (inner : Reader) (spells : Item → ℕ → List ℕ → 
       let on : IsBehind mid s.1 more back = record { left = omega (arith, b.left, cnt); at = omega (arith, b.at, long); bytes = refl } in
       rw one (each_refused again so items n s.1 more mid back (done ++ item ∷ []) e (ends_behind total rest mid m first ends to_mid) (omega arith) s.5 on r)
 
-  each_stops : Takes inner spells → StopsSo total inner Refuses → (n : ℕ) (done : List Item) (rest : Rest) (e : CborFault) → EndsAt total rest → IsBytes rest.bytes
+  pub each_stops : Takes inner spells → StopsSo total inner Refuses → (n : ℕ) (done : List Item) (rest : Rest) (e : CborFault) → EndsAt total rest → IsBytes rest.bytes
       → items_at inner done n rest.left rest.bytes ≡ Err e → RefusesEach Refuses spells n rest e
   unfolding items_at
   each_stops takes so zero done rest e ends h stops = absurd (cc stops)
