@@ -10,3 +10,4 @@ pub mod Sorted
 pub mod Whole
 pub mod Refusing
 pub mod RefusingMaps
+pub mod RefusingItems
