@@ -11,3 +11,4 @@ pub mod Whole
 pub mod Refusing
 pub mod RefusingMaps
 pub mod RefusingItems
+pub mod MoreBytes

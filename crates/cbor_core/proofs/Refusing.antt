@@ -10,12 +10,12 @@ use Rattle.cbor_core.specs.declared.fault.CborFault.{CborFault}
 use Rattle.cbor_core.specs.declared.fault.CborFault.TheVariants as f
 use Rattle.cbor_core.specs.declared.item.Item.{Item}
 use Rattle.cbor_core.specs.declared.item.Item.TheVariants as v
-use Rattle.cbor_core.specs.Grammar.{head_of, IsHead, IsString, EncodesEach, Encodes}
+use Rattle.cbor_core.specs.Grammar.{IsBytes, head_of, IsHead, IsString, EncodesEach, Encodes}
 use Rattle.cbor_core.specs.Refusals.{Rest, IsBehind, IsBehindHead, IsTruncated, RefusesWidth, RefusesArgument, RefusesHead, may_begin, is_item, is_key, RefusesString, RefusesText, RefusesFlat, RefusesEach}
 use Rattle.cbor_core.specs.Internal.Results.{◌>>=◌}
-use Rattle.cbor_core.specs.Reading.{Reader, start_of, byte_at, wide_at, argument_at, string_at, whole_at, blob_at, text_string_at, flat_at, items_at, list_at, map_at, item_at}
+use Rattle.cbor_core.specs.Internal.Reading.{Reader, start_of, byte_at, wide_at, argument_at, string_at, whole_at, blob_at, text_string_at, flat_at, items_at, list_at, map_at, item_at}
 use Rattle.cbor_core.proofs.Outcomes.{same_err, took, passed, went_on, stopped}
-use Rattle.cbor_core.proofs.Arguments.{IsBytes, IsBytes-drop, Head, argument_takes, argument_again, head_first}
+use Rattle.cbor_core.proofs.Arguments.{IsBytes-drop, Head, argument_takes, argument_again, head_first}
 use Rattle.cbor_core.proofs.Again.{Again, string_again}
 use Rattle.cbor_core.proofs.Found.{Takes, string_takes}
 use Rattle.cbor_core.proofs.Steps.{item_as_list, item_as_map, item_as_flat}

@@ -7,12 +7,12 @@ use Rattle.cbor_core.specs.declared.fault.CborFault.{CborFault}
 use Rattle.cbor_core.specs.declared.fault.CborFault.TheVariants as f
 use Rattle.cbor_core.specs.declared.item.Item.{Item}
 use Rattle.cbor_core.specs.declared.item.Item.TheVariants as v
-use Rattle.cbor_core.specs.Grammar.{head_of, IsString, Encodes, pairs_of}
+use Rattle.cbor_core.specs.Grammar.{IsBytes, head_of, IsString, Encodes, pairs_of}
 use Rattle.cbor_core.specs.Refusals.{Rest, IsBehind, IsBehindHead, RefusesHead, is_item, RefusesString, RefusesText, RefusesFlat, RefusesEach, RefusesEntries, RefusesInside, RefusesItem, IsRefused, IsTrailing, input_of}
 use Rattle.cbor_core.specs.Internal.Results.{◌>>=◌}
-use Rattle.cbor_core.specs.Reading.{Reader, start_of, argument_at, string_at, whole_at, blob_at, text_string_at, flat_at, items_at, entries_at, list_at, map_at, item_at, reading}
+use Rattle.cbor_core.specs.Internal.Reading.{Reader, start_of, argument_at, string_at, whole_at, blob_at, text_string_at, flat_at, items_at, entries_at, list_at, map_at, item_at, reading}
 use Rattle.cbor_core.proofs.Outcomes.{same_err, took, stopped, passed_true}
-use Rattle.cbor_core.proofs.Arguments.{IsBytes, head_first}
+use Rattle.cbor_core.proofs.Arguments.{head_first}
 use Rattle.cbor_core.proofs.Again.{Again, item_again}
 use Rattle.cbor_core.proofs.Found.{Takes, item_takes}
 use Rattle.cbor_core.proofs.Steps.{item_as_flat, item_as_list, item_as_map}

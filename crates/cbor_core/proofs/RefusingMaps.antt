@@ -8,12 +8,11 @@ use Rattle.std.proofs.lemmas.List.{length-append}
 use Rattle.cbor_core.specs.declared.fault.CborFault.{CborFault}
 use Rattle.cbor_core.specs.declared.fault.CborFault.TheVariants as f
 use Rattle.cbor_core.specs.declared.item.Item.{Item}
-use Rattle.cbor_core.specs.Grammar.{head_of, IsHead, EncodesEntries, KeysDiffer, put_all}
+use Rattle.cbor_core.specs.Grammar.{IsBytes, head_of, IsHead, EncodesEntries, KeysDiffer, put_all}
 use Rattle.cbor_core.specs.Refusals.{Rest, IsBehind, IsBehindHead, RefusesHead, is_key, LacksKey, RefusesEntry, RefusesEntries}
 use Rattle.cbor_core.specs.Internal.Results.{◌>>=◌}
-use Rattle.cbor_core.specs.Reading.{Reader, start_of, argument_at, key_at, entries_at}
+use Rattle.cbor_core.specs.Internal.Reading.{Reader, start_of, argument_at, key_at, entries_at}
 use Rattle.cbor_core.proofs.Outcomes.{same_err, took, stopped}
-use Rattle.cbor_core.proofs.Arguments.{IsBytes}
 use Rattle.cbor_core.proofs.Keys.{has, Fresh, fresh_before, fresh_after, fresh_at_first, lacks_before, lacks_after}
 use Rattle.cbor_core.proofs.Again.{Again, key_again}
 use Rattle.cbor_core.proofs.Found.{Takes, key_takes}
