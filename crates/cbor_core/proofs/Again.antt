@@ -10,7 +10,7 @@ use Rattle.std.proofs.lemmas.List.{take_at, drop_at, length-append, append-nil}
 use Rattle.cbor_core.specs.declared.item.Item.{Item}
 use Rattle.cbor_core.specs.declared.item.Item.TheVariants as v
 use Rattle.cbor_core.specs.Grammar.{head_of, IsHead, EncodesFlat, EncodesEach, EncodesEntries, EncodesList, EncodesMap, Encodes, KeysDiffer, put_all}
-use Rattle.cbor_core.specs.Reading.{Reader, argument_at, string_at, whole_at, blob_at, text_string_at, flat_at, items_at, list_at, key_at, entries_at, map_at, item_at}
+use Rattle.cbor_core.specs.Internal.Reading.{Reader, argument_at, string_at, whole_at, blob_at, text_string_at, flat_at, items_at, list_at, key_at, entries_at, map_at, item_at}
 use Rattle.cbor_core.proofs.Arguments.{argument_again, head_first}
 use Rattle.cbor_core.proofs.Keys.{Fresh, fresh_after, fresh_at_first}
 use Rattle.cbor_core.proofs.Steps.{item_as_list, item_as_map, item_as_flat}
@@ -69,7 +69,7 @@ unfolding key_at
 key_is total left [] full m some = absurd (omega arith)
 key_is total left (b ∷ bytes) full m some = rw (ne_eqb left 0 (omega arith), m) refl
 
-key_again : (total left key : ℕ) (text rest : List ℕ) → IsHead 0 key text → 0 < left → key_at total left (text ++ rest) ≡ Ok (key, rest)
+pub key_again : (total left key : ℕ) (text rest : List ℕ) → IsHead 0 key text → 0 < left → key_at total left (text ++ rest) ≡ Ok (key, rest)
 key_again total left key text rest s some =
     let first = head_first 0 key rest in
     rw s.1 (key_is total left (head_of 0 key ++ rest) first.0 first.1 some ∙ argument_again total 0 key rest s.0)

@@ -7,12 +7,9 @@ use Rattle.std.proofs.lemmas.List.{take_at, drop_at, take-append-drop, length-ap
 use Rattle.std.proofs.lemmas.Nat.{be_bytes_2, be_bytes_4, be_bytes_8, from_be_bytes-to_be_bytes_2, from_be_bytes-to_be_bytes_4, from_be_bytes-to_be_bytes_8}
 use Rattle.cbor_core.specs.declared.fault.CborFault.{CborFault}
 use Rattle.cbor_core.specs.declared.fault.CborFault.TheVariants as f
-use Rattle.cbor_core.specs.Grammar.{head_of}
-use Rattle.cbor_core.specs.Reading.{start_of, byte_at, wide_at, argument_at}
+use Rattle.cbor_core.specs.Grammar.{IsBytes, head_of}
+use Rattle.cbor_core.specs.Internal.Reading.{start_of, byte_at, wide_at, argument_at}
 use Rattle.cbor_core.proofs.Outcomes.{same_ok, took, passed}
-
-abbrev pub IsBytes : List ℕ → Type 0
-IsBytes bytes = (i : ℕ) → get_or bytes i 0 < 256
 
 pub IsBytes-tail : (b : ℕ) (bytes : List ℕ) → IsBytes (b ∷ bytes) → IsBytes bytes
 IsBytes-tail b bytes h i = h (suc i)

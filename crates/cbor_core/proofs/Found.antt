@@ -11,10 +11,10 @@ use Rattle.cbor_core.specs.declared.fault.CborFault.{CborFault}
 use Rattle.cbor_core.specs.declared.fault.CborFault.TheVariants as f
 use Rattle.cbor_core.specs.declared.item.Item.{Item}
 use Rattle.cbor_core.specs.declared.item.Item.TheVariants as v
-use Rattle.cbor_core.specs.Grammar.{head_of, IsHead, IsString, EncodesFlat, EncodesEach, EncodesEntries, EncodesList, EncodesMap, Encodes, KeysDiffer, put_all, pairs_of}
+use Rattle.cbor_core.specs.Grammar.{IsBytes, head_of, IsHead, IsString, EncodesFlat, EncodesEach, EncodesEntries, EncodesList, EncodesMap, Encodes, KeysDiffer, put_all, pairs_of}
 use Rattle.cbor_core.specs.Internal.Results.{◌>>=◌}
-use Rattle.cbor_core.specs.Reading.{Reader, start_of, argument_at, string_at, whole_at, blob_at, text_string_at, flat_at, items_at, list_at, key_at, entries_at, map_at, item_at}
-use Rattle.cbor_core.proofs.Arguments.{IsBytes, IsBytes-drop, argument_takes}
+use Rattle.cbor_core.specs.Internal.Reading.{Reader, start_of, argument_at, string_at, whole_at, blob_at, text_string_at, flat_at, items_at, list_at, key_at, entries_at, map_at, item_at}
+use Rattle.cbor_core.proofs.Arguments.{IsBytes-drop, argument_takes}
 use Rattle.cbor_core.proofs.Outcomes.{same_ok, took, passed, passed_true, went_on}
 use Rattle.cbor_core.proofs.Keys.{has, Fresh, fresh_before}
 
@@ -170,14 +170,14 @@ module _ (total : ℕ) (inner : Reader) (spells : Item → ℕ → List ℕ → 
       })
 
   -- a key is an item
-  record Key (left : ℕ) (bytes : List ℕ) (key : ℕ) (rest : List ℕ) : Type 0 where
-    text : List ℕ
-    spelled : IsHead 0 key text
-    parts : bytes ≡ text ++ rest
-    some : 0 < left
-    fits : IsBytes rest
+  pub record Key (left : ℕ) (bytes : List ℕ) (key : ℕ) (rest : List ℕ) : Type 0 where
+    pub text : List ℕ
+    pub spelled : IsHead 0 key text
+    pub parts : bytes ≡ text ++ rest
+    pub some : 0 < left
+    pub fits : IsBytes rest
 
-  key_takes : (left : ℕ) (bytes : List ℕ) (key : ℕ) (rest : List ℕ) → IsBytes bytes → key_at total left bytes ≡ Ok (key, rest) → Key left bytes key rest
+  pub key_takes : (left : ℕ) (bytes : List ℕ) (key : ℕ) (rest : List ℕ) → IsBytes bytes → key_at total left bytes ≡ Ok (key, rest) → Key left bytes key rest
   unfolding key_at
   key_takes left [] key rest h e = absurd cc
   key_takes left (b ∷ bytes) key rest h e =

@@ -10,6 +10,7 @@ use Rattle.std.specs.BTreeMap.{is_at, insert_entry}
 use Rattle.std.proofs.lemmas.Bool.{false≢true}
 use Rattle.std.proofs.lemmas.Bool.Decides.{nat_tests}
 use Rattle.cbor_core.specs.declared.item.Item.{Item}
+use Rattle.cbor_core.specs.Grammar.{put_all}
 
 -- whether a map has the key
 abbrev pub has : ℕ → List (ℕ × Item) → Bool
@@ -69,3 +70,15 @@ fresh_after k v done (e ∷ es) h ne = (has_put_other e.0 k v done ne.0 ∙ h.0,
 pub fresh_at_first : (entries : List (ℕ × Item)) → Fresh [] entries
 fresh_at_first [] = tt
 fresh_at_first (e ∷ es) = (refl, fresh_at_first es)
+
+-- a key that entries have not when they are put was not there, and none of them has it
+pub lacks_before : (k : ℕ) (es done : List (ℕ × Item)) → has k (put_all done es) ≡ false → (has k done ≡ false) × AllBut k es
+lacks_before k [] done h = (h, tt)
+lacks_before k (e ∷ es) done h =
+    let rest = lacks_before k es (insert_entry nat_cmp done e.0 e.1) h in
+    let other = differs k e.0 e.1 done rest.0 in
+    (sym (has_put_other k e.0 e.1 done other) ∙ rest.0, ((λ same. other (sym same)), rest.1))
+
+pub lacks_after : (k : ℕ) (es done : List (ℕ × Item)) → has k done ≡ false → AllBut k es → has k (put_all done es) ≡ false
+lacks_after k [] done h all = h
+lacks_after k (e ∷ es) done h all = lacks_after k es (insert_entry nat_cmp done e.0 e.1) (has_put_other k e.0 e.1 done (λ same. all.0 (sym same)) ∙ h) all.1

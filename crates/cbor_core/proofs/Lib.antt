@@ -9,3 +9,6 @@ pub mod Lawful
 pub mod Sorted
 pub mod Whole
 pub mod Refusing
+pub mod RefusingMaps
+pub mod RefusingItems
+pub mod MoreBytes

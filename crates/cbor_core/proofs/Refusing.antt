@@ -10,12 +10,12 @@ use Rattle.cbor_core.specs.declared.fault.CborFault.{CborFault}
 use Rattle.cbor_core.specs.declared.fault.CborFault.TheVariants as f
 use Rattle.cbor_core.specs.declared.item.Item.{Item}
 use Rattle.cbor_core.specs.declared.item.Item.TheVariants as v
-use Rattle.cbor_core.specs.Grammar.{head_of, IsHead, IsString, EncodesEach, Encodes}
+use Rattle.cbor_core.specs.Grammar.{IsBytes, head_of, IsHead, IsString, EncodesEach, Encodes}
 use Rattle.cbor_core.specs.Refusals.{Rest, IsBehind, IsBehindHead, IsTruncated, RefusesWidth, RefusesArgument, RefusesHead, may_begin, is_item, is_key, RefusesString, RefusesText, RefusesFlat, RefusesEach}
 use Rattle.cbor_core.specs.Internal.Results.{◌>>=◌}
-use Rattle.cbor_core.specs.Reading.{Reader, start_of, byte_at, wide_at, argument_at, string_at, whole_at, blob_at, text_string_at, flat_at, items_at, list_at, map_at, item_at}
+use Rattle.cbor_core.specs.Internal.Reading.{Reader, start_of, byte_at, wide_at, argument_at, string_at, whole_at, blob_at, text_string_at, flat_at, items_at, list_at, map_at, item_at}
 use Rattle.cbor_core.proofs.Outcomes.{same_err, took, passed, went_on, stopped}
-use Rattle.cbor_core.proofs.Arguments.{IsBytes, IsBytes-drop, Head, argument_takes, argument_again, head_first}
+use Rattle.cbor_core.proofs.Arguments.{IsBytes-drop, Head, argument_takes, argument_again, head_first}
 use Rattle.cbor_core.proofs.Again.{Again, string_again}
 use Rattle.cbor_core.proofs.Found.{Takes, string_takes}
 use Rattle.cbor_core.proofs.Steps.{item_as_list, item_as_map, item_as_flat}
@@ -24,7 +24,7 @@ use Rattle.cbor_core.proofs.Steps.{item_as_list, item_as_map, item_as_flat}
 abbrev pub EndsAt : ℕ → Rest → Type 0
 EndsAt total rest = total ≡ rest.at + length rest.bytes
 
-boolean : (b : Bool) → (b ≡ true) ⊎ (b ≡ false)
+pub boolean : (b : Bool) → (b ≡ true) ⊎ (b ≡ false)
 boolean true = inl refl
 boolean false = inr refl
 
@@ -67,26 +67,26 @@ byte_stops total at (b ∷ bytes) e is h =
       | inr p ↦ absurd (cc p.1)
     ]
 
-start_is : (total at b : ℕ) (bytes : List ℕ) → total ≡ at + suc (length bytes) → start_of total (b ∷ bytes) ≡ at
+pub start_is : (total at b : ℕ) (bytes : List ℕ) → total ≡ at + suc (length bytes) → start_of total (b ∷ bytes) ≡ at
 start_is total at b bytes is = omega (arith, is)
 
-argument_refused : (total at b : ℕ) (bytes : List ℕ) (e : CborFault) → total ≡ at + suc (length bytes) → RefusesArgument (b % 32) at bytes e → argument_at total (b ∷ bytes) ≡ Err e
+pub argument_refused : (total at b : ℕ) (bytes : List ℕ) (e : CborFault) → total ≡ at + suc (length bytes) → RefusesArgument (b % 32) at bytes e → argument_at total (b ∷ bytes) ≡ Err e
 unfolding argument_at
 argument_refused total at b bytes e is (inl s) = rw (s.0, start_is total at b bytes is) (byte_refused total at bytes e (omega (arith, is)) s.1)
 argument_refused total at b bytes e is (inr (inl s)) = rw (s.0, start_is total at b bytes is) (wide_refused total w16 (2 ^ 8) at bytes e (omega (arith, is)) s.1)
 argument_refused total at b bytes e is (inr (inr (inl s))) = rw (s.0, start_is total at b bytes is) (wide_refused total w32 (2 ^ 16) at bytes e (omega (arith, is)) s.1)
 argument_refused total at b bytes e is (inr (inr (inr s))) = rw (s.0, start_is total at b bytes is) (wide_refused total w64 (2 ^ 32) at bytes e (omega (arith, is)) s.1)
 
-argument_indefinite : (total at b : ℕ) (bytes : List ℕ) → total ≡ at + suc (length bytes) → 28 ≤ b % 32 → argument_at total (b ∷ bytes) ≡ Err (f.Forbidden at)
+pub argument_indefinite : (total at b : ℕ) (bytes : List ℕ) → total ≡ at + suc (length bytes) → 28 ≤ b % 32 → argument_at total (b ∷ bytes) ≡ Err (f.Forbidden at)
 unfolding argument_at
 argument_indefinite total at b bytes is le =
     rw (le-ltb (b % 32) 24 (omega arith), ne_eqb (b % 32) 24 (λ e. absurd (omega arith)), ne_eqb (b % 32) 25 (λ e. absurd (omega arith)), ne_eqb (b % 32) 26 (λ e. absurd (omega arith)), ne_eqb (b % 32) 27 (λ e. absurd (omega arith)), start_is total at b bytes is) refl
 
 -- what an argument that was not read shows
-abbrev ArgumentStops : ℕ → ℕ → List ℕ → CborFault → Type 0
+abbrev pub ArgumentStops : ℕ → ℕ → List ℕ → CborFault → Type 0
 ArgumentStops at b bytes e = ((28 ≤ b % 32) × (e ≡ f.Forbidden at)) ⊎ ((b % 32 < 28) × RefusesArgument (b % 32) at bytes e)
 
-argument_stops : (total at b : ℕ) (bytes : List ℕ) (e : CborFault) → total ≡ at + suc (length bytes) → argument_at total (b ∷ bytes) ≡ Err e → ArgumentStops at b bytes e
+pub argument_stops : (total at b : ℕ) (bytes : List ℕ) (e : CborFault) → total ≡ at + suc (length bytes) → argument_at total (b ∷ bytes) ≡ Err e → ArgumentStops at b bytes e
 unfolding argument_at
 argument_stops total at b bytes e is h =
     let start = start_is total at b bytes is in
@@ -127,10 +127,10 @@ argument_stops total at b bytes e is h =
 -- ---- a head
 
 -- the kinds of items that may stand
-abbrev Kinds : ℕ → ℕ → Type 0
+abbrev pub Kinds : ℕ → ℕ → Type 0
 Kinds levels m = (m ≡ 0) ⊎ ((m ≡ 2) ⊎ ((m ≡ 3) ⊎ (((0 < levels) × (m ≡ 4)) ⊎ ((0 < levels) × (m ≡ 5)))))
 
-kinds : (levels m : ℕ) → is_item levels m ≡ true → Kinds levels m
+pub kinds : (levels m : ℕ) → is_item levels m ≡ true → Kinds levels m
 kinds levels m h = elim (or_cases (eqb m 0) (eqb m 2 || (eqb m 3 || (ltb 0 levels && (eqb m 4 || eqb m 5)))) h) [
   | inl a ↦ inl (eqb-true m 0 a)
   | inr a ↦ elim (or_cases (eqb m 2) (eqb m 3 || (ltb 0 levels && (eqb m 4 || eqb m 5))) a) [
@@ -176,11 +176,11 @@ flat_is_whole : (total left : ℕ) (bytes : List ℕ) → flat_at total 0 left b
 unfolding flat_at
 flat_is_whole total left bytes = refl
 
-flat_is_blob : (total left : ℕ) (bytes : List ℕ) → flat_at total 2 left bytes ≡ blob_at total left bytes
+pub flat_is_blob : (total left : ℕ) (bytes : List ℕ) → flat_at total 2 left bytes ≡ blob_at total left bytes
 unfolding flat_at
 flat_is_blob total left bytes = refl
 
-flat_is_text : (total left : ℕ) (bytes : List ℕ) → flat_at total 3 left bytes ≡ text_string_at total left bytes
+pub flat_is_text : (total left : ℕ) (bytes : List ℕ) → flat_at total 3 left bytes ≡ text_string_at total left bytes
 unfolding flat_at
 flat_is_text total left bytes = refl
 
@@ -212,22 +212,22 @@ module _ (total left : ℕ) (bytes : List ℕ) (e : CborFault) (stops : argument
 
 -- an item whose argument stops
 module _ (total left : ℕ) (some : 0 < left) (b : ℕ) (bytes : List ℕ) (levels : ℕ) where
-  as_whole : b / 32 ≡ 0 → item_at total levels left (b ∷ bytes) ≡ whole_at total (left - 1) (b ∷ bytes)
+  pub as_whole : b / 32 ≡ 0 → item_at total levels left (b ∷ bytes) ≡ whole_at total (left - 1) (b ∷ bytes)
   as_whole m = item_as_flat total left some (b ∷ bytes) levels (omega arith) (λ _ e. absurd (omega arith)) (λ _ e. absurd (omega arith)) ∙ rw m (flat_is_whole total (left - 1) (b ∷ bytes))
 
-  as_blob : b / 32 ≡ 2 → item_at total levels left (b ∷ bytes) ≡ blob_at total (left - 1) (b ∷ bytes)
+  pub as_blob : b / 32 ≡ 2 → item_at total levels left (b ∷ bytes) ≡ blob_at total (left - 1) (b ∷ bytes)
   as_blob m = item_as_flat total left some (b ∷ bytes) levels (omega arith) (λ _ e. absurd (omega arith)) (λ _ e. absurd (omega arith)) ∙ rw m (flat_is_blob total (left - 1) (b ∷ bytes))
 
-  as_text : b / 32 ≡ 3 → item_at total levels left (b ∷ bytes) ≡ text_string_at total (left - 1) (b ∷ bytes)
+  pub as_text : b / 32 ≡ 3 → item_at total levels left (b ∷ bytes) ≡ text_string_at total (left - 1) (b ∷ bytes)
   as_text m = item_as_flat total left some (b ∷ bytes) levels (omega arith) (λ _ e. absurd (omega arith)) (λ _ e. absurd (omega arith)) ∙ rw m (flat_is_text total (left - 1) (b ∷ bytes))
 
-  as_list : 0 < levels → b / 32 ≡ 4 → item_at total levels left (b ∷ bytes) ≡ list_at total (item_at total (levels - 1)) (left - 1) (b ∷ bytes)
+  pub as_list : 0 < levels → b / 32 ≡ 4 → item_at total levels left (b ∷ bytes) ≡ list_at total (item_at total (levels - 1)) (left - 1) (b ∷ bytes)
   as_list pos m = item_as_list total left some (b ∷ bytes) levels (omega arith) pos m
 
-  as_map : 0 < levels → b / 32 ≡ 5 → item_at total levels left (b ∷ bytes) ≡ map_at total (item_at total (levels - 1)) (left - 1) (b ∷ bytes)
+  pub as_map : 0 < levels → b / 32 ≡ 5 → item_at total levels left (b ∷ bytes) ≡ map_at total (item_at total (levels - 1)) (left - 1) (b ∷ bytes)
   as_map pos m = item_as_map total left some (b ∷ bytes) levels (omega arith) pos m
 
-  as_none : is_item levels (b / 32) ≡ false → item_at total levels left (b ∷ bytes) ≡ Err (f.Forbidden (start_of total (b ∷ bytes)))
+  pub as_none : is_item levels (b / 32) ≡ false → item_at total levels left (b ∷ bytes) ≡ Err (f.Forbidden (start_of total (b ∷ bytes)))
   as_none h =
       let n = no_kind levels (b / 32) h in
       item_as_flat total left some (b ∷ bytes) levels (omega arith) n.list n.map ∙ flat_none total (b / 32) (left - 1) (b ∷ bytes) n.whole n.blob n.text
@@ -241,12 +241,12 @@ module _ (total left : ℕ) (some : 0 < left) (b : ℕ) (bytes : List ℕ) (leve
     | inr (inr (inr (inr m))) ↦ as_map m.0 m.1 ∙ map_at_head total (left - 1) (b ∷ bytes) e stops (item_at total (levels - 1))
   ]
 
-item_at_end : (total levels left : ℕ) → item_at total levels left [] ≡ Err (f.Truncated total)
+pub item_at_end : (total levels left : ℕ) → item_at total levels left [] ≡ Err (f.Truncated total)
 unfolding item_at
 item_at_end total zero left = refl
 item_at_end total (suc n) left = refl
 
-item_at_full : (total levels b : ℕ) (bytes : List ℕ) → item_at total levels 0 (b ∷ bytes) ≡ Err f.TooMany
+pub item_at_full : (total levels b : ℕ) (bytes : List ℕ) → item_at total levels 0 (b ∷ bytes) ≡ Err f.TooMany
 unfolding item_at
 item_at_full total zero b bytes = refl
 item_at_full total (suc n) b bytes = refl
@@ -259,7 +259,7 @@ wide_code code at bytes e (inr (inr (inl s))) = omega (arith, s.0)
 wide_code code at bytes e (inr (inr (inr s))) = omega (arith, s.0)
 
 -- a head of an item that is refused
-item_head_refused : (total levels left at : ℕ) (bytes : List ℕ) (e : CborFault) → total ≡ at + length bytes → RefusesHead (is_item levels) left at bytes e → item_at total levels left bytes ≡ Err e
+pub item_head_refused : (total levels left at : ℕ) (bytes : List ℕ) (e : CborFault) → total ≡ at + length bytes → RefusesHead (is_item levels) left at bytes e → item_at total levels left bytes ≡ Err e
 item_head_refused total levels left at [] e is s = item_at_end total levels left ∙ rw (s, is) (ap (λ (n : ℕ). Err (f.Truncated n)) (omega arith))
 item_head_refused total levels left at (b ∷ bytes) e is (inl s) = rw (s.0, s.1) (item_at_full total levels b bytes)
 item_head_refused total levels left at (b ∷ bytes) e is (inr (inl s)) =
@@ -295,15 +295,15 @@ ends_behind total rest back count front ends b =
     omega (arith, ends, b.at, long)
 
 -- what follows a head that was read
-record HeadRead (total major n : ℕ) (rest : Rest) (behind : List ℕ) : Type 0 where
-  back : Rest
-  left : rest.left ≡ suc back.left
-  bytes : back.bytes ≡ behind
-  is : IsBehindHead major n rest back
-  ends : EndsAt total back
-  fits : IsBytes behind
+pub record HeadRead (total major n : ℕ) (rest : Rest) (behind : List ℕ) : Type 0 where
+  pub back : Rest
+  pub left : rest.left ≡ suc back.left
+  pub bytes : back.bytes ≡ behind
+  pub is : IsBehindHead major n rest back
+  pub ends : EndsAt total back
+  pub fits : IsBytes behind
 
-head_read : (total left at b n : ℕ) (bytes behind : List ℕ) → EndsAt total (rest_at left at (b ∷ bytes)) → 0 < left → IsBytes (b ∷ bytes) → argument_at total (b ∷ bytes) ≡ Ok (n, behind) → HeadRead total (b / 32) n (rest_at left at (b ∷ bytes)) behind
+pub head_read : (total left at b n : ℕ) (bytes behind : List ℕ) → EndsAt total (rest_at left at (b ∷ bytes)) → 0 < left → IsBytes (b ∷ bytes) → argument_at total (b ∷ bytes) ≡ Ok (n, behind) → HeadRead total (b / 32) n (rest_at left at (b ∷ bytes)) behind
 head_read total left at b n bytes behind ends some h e =
     let head = argument_takes total (b ∷ bytes) n behind h e in
     let back : Rest = rest_at (left - 1) (at + length (head_of (b / 32) n)) behind in
@@ -311,12 +311,12 @@ head_read total left at b n bytes behind ends some h e =
     record { back = back; left = omega arith; bytes = refl; is = (head.below, is); ends = ends_behind total (rest_at left at (b ∷ bytes)) back 1 (head_of (b / 32) n) ends is; fits = head.fits }
 
 -- a head that the relation goes by is read
-head_again : (total major n : ℕ) (rest back : Rest) → IsBehindHead major n rest back → argument_at total rest.bytes ≡ Ok (n, back.bytes)
+pub head_again : (total major n : ℕ) (rest back : Rest) → IsBehindHead major n rest back → argument_at total rest.bytes ≡ Ok (n, back.bytes)
 head_again total major n rest back s = ap (argument_at total) s.1.bytes ∙ argument_again total major n back.bytes s.0
 
 -- ---- strings
 
-string_refused : (total major : ℕ) (rest : Rest) (e : CborFault) → EndsAt total rest → RefusesString major rest e → string_at total rest.bytes ≡ Err e
+pub string_refused : (total major : ℕ) (rest : Rest) (e : CborFault) → EndsAt total rest → RefusesString major rest e → string_at total rest.bytes ≡ Err e
 unfolding string_at
 string_refused total major rest e ends s =
     let n = s.0 in
@@ -324,7 +324,7 @@ string_refused total major rest e ends s =
     let end = ends_behind total rest back 1 (head_of major n) ends s.2.1 in
     rw (head_again total major n rest back s.2, lt-ltb (length back.bytes) n s.3, s.4) (ap (λ (k : ℕ). Err (f.Truncated k)) end)
 
-string_stops : (total left at b : ℕ) (bytes : List ℕ) (e : CborFault) → EndsAt total (rest_at left at (b ∷ bytes)) → 0 < left → IsBytes (b ∷ bytes) → string_at total (b ∷ bytes) ≡ Err e
+pub string_stops : (total left at b : ℕ) (bytes : List ℕ) (e : CborFault) → EndsAt total (rest_at left at (b ∷ bytes)) → 0 < left → IsBytes (b ∷ bytes) → string_at total (b ∷ bytes) ≡ Err e
     → (argument_at total (b ∷ bytes) ≡ Err e) ⊎ RefusesString (b / 32) (rest_at left at (b ∷ bytes)) e
 unfolding string_at
 string_stops total left at b bytes e ends some h stops =
@@ -342,22 +342,22 @@ string_stops total left at b bytes e ends some h stops =
           ]
     ]
 
-blob_refused : (total left : ℕ) (bytes : List ℕ) (e : CborFault) → string_at total bytes ≡ Err e → blob_at total left bytes ≡ Err e
+pub blob_refused : (total left : ℕ) (bytes : List ℕ) (e : CborFault) → string_at total bytes ≡ Err e → blob_at total left bytes ≡ Err e
 unfolding blob_at
 blob_refused total left bytes e h = rw h refl
 
-text_refused_cut : (total left : ℕ) (bytes : List ℕ) (e : CborFault) → string_at total bytes ≡ Err e → text_string_at total left bytes ≡ Err e
+pub text_refused_cut : (total left : ℕ) (bytes : List ℕ) (e : CborFault) → string_at total bytes ≡ Err e → text_string_at total left bytes ≡ Err e
 unfolding text_string_at
 text_refused_cut total left bytes e h = rw h refl
 
-blob_stops : (total left : ℕ) (bytes : List ℕ) (e : CborFault) → blob_at total left bytes ≡ Err e → string_at total bytes ≡ Err e
+pub blob_stops : (total left : ℕ) (bytes : List ℕ) (e : CborFault) → blob_at total left bytes ≡ Err e → string_at total bytes ≡ Err e
 unfolding blob_at
 blob_stops total left bytes e h = elim (stopped (string_at total bytes) (λ s. Ok (v.Blob s.0, left, s.1)) e h) [
   | inl p ↦ p
   | inr p ↦ absurd (cc p.2)
 ]
 
-text_refused_whole : (total left : ℕ) (rest : Rest) (e : CborFault) → EndsAt total rest → RefusesText rest e → text_string_at total left rest.bytes ≡ Err e
+pub text_refused_whole : (total left : ℕ) (rest : Rest) (e : CborFault) → EndsAt total rest → RefusesText rest e → text_string_at total left rest.bytes ≡ Err e
 unfolding text_string_at
 text_refused_whole total left rest e ends s =
     let content = s.0 in
@@ -367,7 +367,7 @@ text_refused_whole total left rest e ends s =
     let start : start_of total rest.bytes ≡ rest.at = omega (arith, ends) in
     rw (read, not_utf8 content s.5, start, s.6) refl
 
-text_stops : (total left at b : ℕ) (bytes : List ℕ) (e : CborFault) → EndsAt total (rest_at left at (b ∷ bytes)) → 0 < left → b / 32 ≡ 3 → IsBytes (b ∷ bytes) → text_string_at total (left - 1) (b ∷ bytes) ≡ Err e
+pub text_stops : (total left at b : ℕ) (bytes : List ℕ) (e : CborFault) → EndsAt total (rest_at left at (b ∷ bytes)) → 0 < left → b / 32 ≡ 3 → IsBytes (b ∷ bytes) → text_string_at total (left - 1) (b ∷ bytes) ≡ Err e
     → (string_at total (b ∷ bytes) ≡ Err e) ⊎ RefusesText (rest_at left at (b ∷ bytes)) e
 unfolding text_string_at
 text_stops total left at b bytes e ends some m h stops =
@@ -399,7 +399,7 @@ abbrev pub StopsSo : ℕ → Reader → (Rest → CborFault → Type 0) → Type
 StopsSo total inner Refuses = (rest : Rest) (e : CborFault) → EndsAt total rest → IsBytes rest.bytes → inner rest.left rest.bytes ≡ Err e → Refuses rest e
 
 module _ (total : ℕ) (inner : Reader) (spells : Item → ℕ → List ℕ → Type 0) (Refuses : Rest → CborFault → Type 0) where
-  each_refused : Again inner spells → RefusedSo total inner Refuses → (items : List Item) (n count : ℕ) (front : List ℕ) (rest back : Rest) (done : List Item) (e : CborFault)
+  pub each_refused : Again inner spells → RefusedSo total inner Refuses → (items : List Item) (n count : ℕ) (front : List ℕ) (rest back : Rest) (done : List Item) (e : CborFault)
       → EndsAt total rest → length items < n → EncodesEach spells items count front → IsBehind rest count front back → Refuses back e
       → items_at inner done n rest.left rest.bytes ≡ Err e
   unfolding items_at
@@ -422,7 +422,7 @@ module _ (total : ℕ) (inner : Reader) (spells : Item → ℕ → List ℕ → 
       let on : IsBehind mid s.1 more back = record { left = omega (arith, b.left, cnt); at = omega (arith, b.at, long); bytes = refl } in
       rw one (each_refused again so items n s.1 more mid back (done ++ item ∷ []) e (ends_behind total rest mid m first ends to_mid) (omega arith) s.5 on r)
 
-  each_stops : Takes inner spells → StopsSo total inner Refuses → (n : ℕ) (done : List Item) (rest : Rest) (e : CborFault) → EndsAt total rest → IsBytes rest.bytes
+  pub each_stops : Takes inner spells → StopsSo total inner Refuses → (n : ℕ) (done : List Item) (rest : Rest) (e : CborFault) → EndsAt total rest → IsBytes rest.bytes
       → items_at inner done n rest.left rest.bytes ≡ Err e → RefusesEach Refuses spells n rest e
   unfolding items_at
   each_stops takes so zero done rest e ends h stops = absurd (cc stops)

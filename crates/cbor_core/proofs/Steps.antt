@@ -14,7 +14,7 @@ use Rattle.cbor_core.specs.declared.item.Pair.{Pair}
 use Rattle.cbor_core.specs.Grammar.{pairs_of}
 use Rattle.cbor_core.specs.Internal.Results.{◌>>=◌, Fails}
 use Rattle.cbor_core.proofs.Outcomes.{fails_on}
-use Rattle.cbor_core.specs.Reading.{is_memory, Reader, start_of, items_at, key_at, entries_at, flat_at, list_at, map_at, item_at}
+use Rattle.cbor_core.specs.Internal.Reading.{is_memory, Reader, start_of, items_at, key_at, entries_at, flat_at, list_at, map_at, item_at}
 
 isnt_true : (b : Bool) → (b ≡ true → ⊥) → b ≡ false
 isnt_true true h = absurd (h refl)

@@ -1,16 +1,18 @@
 -- The laws of reading a whole input.
-use Rattle.std.proofs.Common.{◌≡◌, ℕ, ◌+◌, ◌-◌, ◌≤◌, ◌<◌, Bool, true, false, cond, eqb, List, [], ◌++◌, length, take, drop, Result, Ok, Err, refl, sym, ap, subst, ◌∙◌, arith}
+use Rattle.std.proofs.Common.{◌≡◌, ◌≢◌, ℕ, ◌+◌, ◌-◌, ◌≤◌, ◌<◌, Bool, true, false, cond, eqb, List, [], ◌++◌, length, take, drop, Result, Ok, Err, refl, sym, ap, subst, ◌∙◌, append_assoc, arith, inl, inr}
 use Rattle.std.specs.Prelude.{IfOk}
-use Rattle.std.proofs.lemmas.Bool.{eqb-true, ne_eqb}
-use Rattle.std.proofs.lemmas.List.{append-nil, take-append-drop, length-drop, nil_from_length, append_cancel_right}
+use Rattle.std.proofs.lemmas.Bool.{eqb-true, eqb-false, ne_eqb}
+use Rattle.std.proofs.lemmas.List.{append-nil, take-append-drop, length-append, length-drop, nil_from_length, append_cancel_right}
 use Rattle.cbor_core.specs.declared.fault.CborFault.{CborFault}
 use Rattle.cbor_core.specs.declared.fault.CborFault.TheVariants as f
 use Rattle.cbor_core.specs.declared.item.Item.{Item}
-use Rattle.cbor_core.specs.Grammar.{Encodes}
-use Rattle.cbor_core.specs.Internal.Results.{Gives}
-use Rattle.cbor_core.specs.Reading.{is_memory, start_of, item_at, reading}
-use Rattle.cbor_core.proofs.Arguments.{IsBytes}
-use Rattle.cbor_core.proofs.Outcomes.{ended, went_on, same_ok}
+use Rattle.cbor_core.specs.Grammar.{IsBytes, Encodes}
+use Rattle.cbor_core.specs.Internal.Results.{Gives, Unless}
+use Rattle.cbor_core.specs.Internal.Reading.{is_memory, start_of, item_at, reading}
+use Rattle.cbor_core.proofs.Outcomes.{ended, went_on, same_ok, same_err, stopped, took}
+use Rattle.cbor_core.specs.Refusals.{UnlessMemory, RefusesItem, IsRefused, input_of, ReadsAs, IsFinal}
+use Rattle.cbor_core.proofs.RefusingItems.{item_refused, item_stops}
+use Rattle.cbor_core.proofs.MoreBytes.{item_stays}
 use Rattle.cbor_core.proofs.Found.{item_takes}
 use Rattle.cbor_core.specs.Writing.{item_nesting, count_of, keys_rise}
 use Rattle.cbor_core.proofs.Again.{item_again}
@@ -60,17 +62,11 @@ front bytes text rest item count le s e =
 pub read_again : (bytes : List ℕ) (item : Item) (count : ℕ) → count ≤ 100000 → Encodes 4 item count bytes → reading bytes ≡ Ok item
 read_again bytes item count le s = front bytes bytes [] item count le s (sym (append-nil bytes))
 
-pub only_by : (bytes : List ℕ) (result : Result Item CborFault) (item : Item) (count : ℕ) → count ≤ 100000 → Encodes 4 item count bytes → Gives is_memory (λ x. x) result (reading bytes) → Gives is_memory (λ x. x) result (Ok item)
-only_by bytes result item count le s g = subst (λ (r : Result Item CborFault). Gives is_memory (λ x. x) result r) (read_again bytes item count le s) g
-
-read_trailing : (bytes : List ℕ) (item : Item) (count n : ℕ) → n < length bytes → count ≤ 100000 → Encodes 4 item count (take n bytes) → reading bytes ≡ Err (f.Trailing n)
+pub read_trailing : (bytes : List ℕ) (item : Item) (count n : ℕ) → n < length bytes → count ≤ 100000 → Encodes 4 item count (take n bytes) → reading bytes ≡ Err (f.Trailing n)
 read_trailing bytes item count n lt le s =
     let some : eqb (length (drop n bytes)) 0 ≡ false = ne_eqb _ _ (λ e. absurd (omega (arith, length-drop n bytes))) in
     let place : start_of (length bytes) (drop n bytes) ≡ n = omega (arith, length-drop n bytes) in
     front bytes (take n bytes) (drop n bytes) item count le s (sym (take-append-drop n bytes)) ∙ rw (some, place) refl
-
-pub trailing_by : (bytes : List ℕ) (result : Result Item CborFault) (item : Item) (count n : ℕ) → n < length bytes → count ≤ 100000 → Encodes 4 item count (take n bytes) → Gives is_memory (λ x. x) result (reading bytes) → Gives is_memory (λ x. x) result (Err (f.Trailing n))
-trailing_by bytes result item count n lt le s g = subst (λ (r : Result Item CborFault). Gives is_memory (λ x. x) result r) (read_trailing bytes item count n lt le s) g
 
 -- two spellings at the front of the same bytes
 pub one_item : (levels m n : ℕ) (i j : Item) (a b x y : List ℕ) → Encodes levels i m a → Encodes levels j n b → a ++ x ≡ b ++ y → (a ≡ b) × (i ≡ j) × (m ≡ n) × (x ≡ y)
@@ -81,3 +77,110 @@ one_item levels m n i j a b x y s t e =
     let rest : x ≡ y = ap (λ (q : Item × ℕ × List ℕ). q.2) both in
     let left : (m + n) - m ≡ (m + n) - n = ap (λ (q : Item × ℕ × List ℕ). q.1) both in
     (append_cancel_right a b x (e ∙ ap (λ (z : List ℕ). b ++ z) (sym rest)), ap (λ (q : Item × ℕ × List ℕ). q.0) both, omega arith, rest)
+
+-- ---- what is refused
+
+pub refused_read : (bytes : List ℕ) (e : CborFault) → IsRefused bytes e → reading bytes ≡ Err e
+unfolding reading
+refused_read bytes e (inl r) = rw (item_refused (length bytes) 4 (input_of bytes) e (omega arith) r) refl
+refused_read bytes e (inr t) =
+    let back = t.3 in
+    let some : eqb (length back) 0 ≡ false = ne_eqb _ _ (λ z. absurd (omega (arith, t.7, z))) in
+    let place : start_of (length bytes) back ≡ length t.2 = omega (arith, ap length t.6, length-append t.2 back) in
+    front bytes t.2 back t.0 t.1 t.4 t.5 t.6 ∙ rw (some, place, t.8) refl
+
+pub read_refused : (bytes : List ℕ) (e : CborFault) → IsBytes bytes → reading bytes ≡ Err e → IsRefused bytes e
+unfolding reading
+read_refused bytes e h stops =
+    let last : Item × ℕ × List ℕ → Result Item CborFault = λ x. cond (eqb (length x.2) 0) (Ok x.0) (Err (f.Trailing (start_of (length bytes) x.2))) in
+    elim (stopped (item_at (length bytes) 4 100000 bytes) last e stops) [
+      | inl p ↦ inl (item_stops (length bytes) 4 (input_of bytes) e (omega arith) h p)
+      | inr p ↦
+          let x = p.0 in
+          let t = item_takes (length bytes) 4 100000 bytes x.0 x.1 x.2 h p.1 in
+          let whole : Result Item CborFault = Ok x.0 in
+          elim (took (eqb (length x.2) 0) whole (Err (f.Trailing (start_of (length bytes) x.2))) (Err e) p.2) [
+            | inl q ↦ absurd (cc q.1)
+            | inr q ↦
+                let some = eqb-false (length x.2) 0 q.0 in
+                let place : start_of (length bytes) x.2 ≡ length t.text = omega (arith, ap length t.parts, length-append t.text x.2) in
+                inr (x.0, t.count, t.text, x.2, omega (arith, t.spent), t.spelled, t.parts, omega (arith, some), sym (same_err (f.Trailing (start_of (length bytes) x.2)) e q.1) ∙ ap (λ (n : ℕ). f.Trailing n) place)
+          ]
+    ]
+
+pub read_as : (bytes : List ℕ) (outcome : Result Item CborFault) → ReadsAs bytes outcome → reading bytes ≡ outcome
+read_as bytes (Ok item) s = read_again bytes item s.0 s.1 s.2
+read_as bytes (Err e) s = refused_read bytes e s
+
+pub reads_as : (bytes : List ℕ) (outcome : Result Item CborFault) → IsBytes bytes → reading bytes ≡ outcome → ReadsAs bytes outcome
+reads_as bytes (Ok item) h e = found bytes item h e
+reads_as bytes (Err d) h e = read_refused bytes d h e
+
+-- an input has one outcome
+pub one_outcome : (bytes : List ℕ) (r s : Result Item CborFault) → ReadsAs bytes r → ReadsAs bytes s → r ≡ s
+one_outcome bytes r s x y = sym (read_as bytes r x) ∙ read_as bytes s y
+
+-- and it has one
+pub some_outcome : (bytes : List ℕ) → IsBytes bytes → (r : Result Item CborFault) × ReadsAs bytes r
+some_outcome bytes h = (reading bytes, reads_as bytes (reading bytes) h refl)
+
+-- ---- what a call answers
+
+not_memory : (e : CborFault) → e ≢ f.Memory → is_memory e ≡ false
+not_memory f.Memory ne = absurd (ne refl)
+not_memory (f.Truncated n) ne = refl
+not_memory (f.NotShortest n) ne = refl
+not_memory (f.Forbidden n) ne = refl
+not_memory (f.RepeatedKey n) ne = refl
+not_memory (f.Trailing n) ne = refl
+not_memory f.TooMany ne = refl
+
+-- a call that gives what reading does answers as reading, unless memory ran out
+pub gives_reading : (result read : Result Item CborFault) → Gives is_memory (λ x. x) result read → result ≢ Err f.Memory → read ≡ result
+gives_reading (Ok x) read g ne = g
+gives_reading (Err e) read g ne = subst (λ (b : Bool). Unless b (read ≡ Err e)) (not_memory e (λ same. ne (λ i. Err (same i)))) g
+
+pub reads_by : (bytes : List ℕ) (result : Result Item CborFault) → IsBytes bytes → Gives is_memory (λ x. x) result (reading bytes) → result ≢ Err f.Memory → ReadsAs bytes result
+reads_by bytes result h g ne = reads_as bytes result h (gives_reading result (reading bytes) g ne)
+
+pub exact_by : (bytes : List ℕ) (result outcome : Result Item CborFault) → ReadsAs bytes outcome → Gives is_memory (λ x. x) result (reading bytes) → UnlessMemory f.Memory outcome result
+exact_by bytes result outcome s g ne = sym (gives_reading result (reading bytes) g ne) ∙ read_as bytes outcome s
+
+-- ---- what follows an input
+
+final_is : (e : CborFault) (n : ℕ) → IsFinal e → e ≡ f.Truncated n → ⊥
+final_is e n final is = subst IsFinal is final
+
+final_not : (e : CborFault) (n : ℕ) → IsFinal e → e ≡ f.Trailing n → ⊥
+final_not e n final is = subst IsFinal is final
+
+-- a final refusal stays whatever follows
+pub final_stays : (bytes more : List ℕ) (e : CborFault) → IsFinal e → IsRefused bytes e → IsRefused (bytes ++ more) e
+final_stays bytes more e final (inl r) = elim (item_stays 4 (input_of bytes) e r) [
+  | inl t ↦ absurd (final_is e (0 + length bytes) final t)
+  | inr t ↦ inl (t more)
+]
+final_stays bytes more e final (inr t) = absurd (final_not e (length t.2) final t.8)
+
+-- a proper front of an item's bytes is cut at its end
+pub front_refused : (item : Item) (count : ℕ) (front more : List ℕ) → IsBytes front → count ≤ 100000 → Encodes 4 item count (front ++ more) → 0 < length more → IsRefused front (f.Truncated (length front))
+front_refused item count front more h le s some =
+    let whole : (front ++ more) ++ [] ≡ front ++ more = append-nil (front ++ more) in
+    by_outcome (reading front) refl
+  where
+    shorter : (other : Item) (n : ℕ) (text rest : List ℕ) → Encodes 4 other n text → front ≡ text ++ rest → ⊥
+    shorter other n text rest t e =
+        let all : text ++ (rest ++ more) ≡ (front ++ more) ++ [] = sym (append_assoc text rest more) ∙ ap (λ (z : List ℕ). z ++ more) (sym e) ∙ sym (append-nil (front ++ more)) in
+        let one = one_item 4 n count other item text (front ++ more) (rest ++ more) [] t s all in
+        omega (arith, ap length one.3, length-append rest more, some)
+    by_outcome : (r : Result Item CborFault) → reading front ≡ r → IsRefused front (f.Truncated (length front))
+    by_outcome (Ok other) e =
+        let o = found front other h e in
+        absurd (shorter other o.0 front [] o.2 (sym (append-nil front)))
+    by_outcome (Err d) e = elim (read_refused front d h e) [
+      | inl r ↦ elim (item_stays 4 (input_of front) d r) [
+        | inl t ↦ let end : 0 + length front ≡ length front = omega arith in inl (subst (λ (c : CborFault). RefusesItem 4 (input_of front) c) (t ∙ ap (λ (n : ℕ). f.Truncated n) end) r)
+        | inr t ↦ absurd (let both = sym (read_again (front ++ more) item count le s) ∙ refused_read (front ++ more) d (inl (t more)) in cc)
+      ]
+      | inr t ↦ absurd (shorter t.0 t.1 t.2 t.3 t.5 t.6)
+    ]

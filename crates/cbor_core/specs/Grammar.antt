@@ -1,6 +1,6 @@
 -- The items of CBOR (RFC 8949) that are read and written here, and the bytes that spell each: whole
 -- numbers, byte strings, texts, lists, and maps from whole numbers, all of definite length.
-use Rattle.std.specs.Prelude.{◌≡◌, ◌≢◌, ℕ, zero, suc, ◌+◌, ◌*◌, ◌^◌, ◌<◌, List, [], ◌∷◌, ◌++◌, length, map, nat_lt, if◌then◌else◌, ◌⊎◌}
+use Rattle.std.specs.Prelude.{◌≡◌, ◌≢◌, ℕ, zero, suc, ◌+◌, ◌*◌, ◌^◌, ◌<◌, List, [], ◌∷◌, ◌++◌, length, map, nat_lt, slice_index, if◌then◌else◌, ◌⊎◌}
 use Rattle.std.specs.Int.{w16, w32, w64, to_be_bytes}
 use Rattle.std.specs.Ordering.{nat_cmp}
 use Rattle.std.specs.List.{AllByRecursion}
@@ -9,6 +9,10 @@ use Rattle.std.specs.BTreeMap.{insert_entry}
 use Rattle.cbor_core.specs.declared.item.Item.{Item}
 use Rattle.cbor_core.specs.declared.item.Item.TheVariants as v
 use Rattle.cbor_core.specs.declared.item.Pair.{Pair}
+
+-- each number of the list is one byte
+abbrev pub IsBytes : List ℕ → Type 0
+IsBytes bytes = (i : ℕ) → slice_index bytes i < 256
 
 -- The head of an item: the major type in the high three bits of the first byte, and the argument in
 -- the low five or in the bytes after it (RFC 8949, 3), in the fewest bytes that hold it (4.2.1).

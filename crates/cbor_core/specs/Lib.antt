@@ -1,5 +1,4 @@
-pub mod Refusals
 pub mod Grammar
-pub mod Reading
 pub mod Writing
+pub mod Refusals
 pub mod Internal

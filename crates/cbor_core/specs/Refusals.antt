@@ -1,12 +1,12 @@
 -- Which input is refused, and as what: the first fault from left to right, with whole items before it.
 -- At one head come, in this order: that an item more may begin, what the first byte shows, the end of
 -- the argument, and that the argument is the shortest (RFC 8949, 3 and 4.2.1). Then comes the content.
-use Rattle.std.specs.Prelude.{◌≡◌, ◌≢◌, ℕ, zero, suc, ◌+◌, ◌/◌, ◌%◌, ◌^◌, ◌≤◌, ◌<◌, List, [], ◌∷◌, ◌++◌, length, take, Bool, true, false, ◌&&◌, ◌||◌, ◌==◌, nat_lt, ◌⊎◌, Result, Err}
+use Rattle.std.specs.Prelude.{◌≡◌, ◌≢◌, ℕ, zero, suc, ◌+◌, ◌/◌, ◌%◌, ◌^◌, ◌≤◌, ◌<◌, List, [], ◌∷◌, ◌++◌, length, take, Bool, true, false, ◌&&◌, ◌||◌, ◌==◌, nat_lt, ◌⊎◌, Result, Ok, Err}
 use Rattle.std.specs.Int.{Width, w8, w16, w32, w64, byte_len, from_be_bytes}
 use Rattle.std.specs.List.{AllByRecursion}
 use Rattle.std.specs.Str.{IsUtf8}
 use Rattle.cbor_core.specs.declared.fault.CborFault.{CborFault}
-use Rattle.cbor_core.specs.declared.fault.CborFault.TheVariants.{Truncated, NotShortest, Forbidden, RepeatedKey, Trailing, TooMany}
+use Rattle.cbor_core.specs.declared.fault.CborFault.TheVariants.{Truncated, NotShortest, Forbidden, RepeatedKey, Trailing, TooMany, Memory}
 use Rattle.cbor_core.specs.declared.item.Item.{Item}
 use Rattle.cbor_core.specs.Grammar.{head_of, IsHead, IsString, EncodesEach, EncodesEntries, KeysDiffer, Encodes}
 
@@ -149,6 +149,17 @@ IsTrailing bytes fault =
 abbrev pub IsRefused : List ℕ → CborFault → Type 0
 IsRefused bytes fault = RefusesItem 4 (input_of bytes) fault ⊎ IsTrailing bytes fault
 
--- what no further bytes mend
+-- what the input is: an item, or refused
+abbrev pub ReadsAs : List ℕ → Result Item CborFault → Type 0
+ReadsAs bytes (Ok item) = (count : ℕ) × (count ≤ 100000) × Encodes 4 item count bytes
+ReadsAs bytes (Err fault) = IsRefused bytes fault
+
+-- a fault that no further bytes mend
 abbrev pub IsFinal : CborFault → Type 0
-IsFinal fault = (n : ℕ) → (fault ≢ Truncated n) × (fault ≢ Trailing n)
+IsFinal (NotShortest at) = Unit {0}
+IsFinal (Forbidden at) = Unit {0}
+IsFinal (RepeatedKey at) = Unit {0}
+IsFinal TooMany = Unit {0}
+IsFinal (Truncated at) = ⊥
+IsFinal (Trailing at) = ⊥
+IsFinal Memory = ⊥

@@ -1,12 +1,14 @@
 //! Reading one item (RFC 8949, 3).
 
-ghost use Rattle.std.specs.Prelude.{◌≡◌, ◌≤◌, ◌<◌, ℕ, [], true, length, take, IfOk, Ok, Err};
+ghost use Rattle.std.specs.Prelude.{◌≡◌, ◌≢◌, ◌≤◌, ◌<◌, ℕ, [], true, length, take, IfOk, Result, Ok, Err};
 ghost use Rattle.cbor_core.specs.declared.item.Item.{Item};
-ghost use Rattle.cbor_core.specs.declared.fault.CborFault.TheVariants.{Trailing};
+ghost use Rattle.cbor_core.specs.declared.fault.CborFault.{CborFault};
+ghost use Rattle.cbor_core.specs.declared.fault.CborFault.TheVariants.{Trailing, Memory};
 ghost use Rattle.cbor_core.specs.Grammar.{pairs_of, Encodes};
+ghost use Rattle.cbor_core.specs.Refusals.{UnlessMemory, ReadsAs};
 ghost use Rattle.cbor_core.specs.Writing.{item_nesting, count_of, keys_rise};
 ghost use Rattle.cbor_core.specs.Internal.Results.{Gives};
-ghost use Rattle.cbor_core.specs.Reading.{is_memory, items_at, entries_at, list_at, map_at, item_at, reading};
+ghost use Rattle.cbor_core.specs.Internal.Reading.{is_memory, items_at, entries_at, list_at, map_at, item_at, reading};
 
 use crate::fault::CborFault;
 use crate::item::{Item, Pair};
@@ -24,7 +26,7 @@ const ITEMS: u32 = 100_000;
 /// The item that the bytes begin with, where lists and maps may nest `levels` deep and `left` items
 /// may begin; then how many may begin after it, and what follows it.
 #[cycle(item)]
-#[tactic(auto, using(crate::proofs::Steps::item_steps), unfolding(crate::specs::Reading::flat_at))]
+#[tactic(auto, using(crate::proofs::Steps::item_steps), unfolding(crate::specs::Internal::Reading::flat_at))]
 fn read_item(
     alloc: Global,
     total: usize,
@@ -53,7 +55,7 @@ fn read_item(
 }
 
 #[cycle(item)]
-#[tactic(auto, unfolding(crate::specs::Reading::list_at))]
+#[tactic(auto, unfolding(crate::specs::Internal::Reading::list_at))]
 fn read_list(
     alloc: Global,
     total: usize,
@@ -95,7 +97,7 @@ fn read_items(
 }
 
 #[cycle(item)]
-#[tactic(auto, unfolding(crate::specs::Reading::map_at))]
+#[tactic(auto, unfolding(crate::specs::Internal::Reading::map_at))]
 fn read_map(
     alloc: Global,
     total: usize,
@@ -158,7 +160,7 @@ fn pairs(alloc: Global, entries: BTreeMap<u64, Item>) -> Result<Items<Pair>, Cbo
     Ok(pairs)
 }
 
-#[tactic(auto, unfolding(crate::specs::Reading::reading))]
+#[tactic(auto, unfolding(crate::specs::Internal::Reading::reading))]
 fn read_all(alloc: Global, bytes: &[u8]) -> Result<Item, CborFault>
     ensures { Gives is_memory (λ x. x) result (reading bytes.now) }
 {
@@ -180,14 +182,17 @@ pub fn decode(alloc: Global, bytes: &[u8]) -> Result<Item, CborFault>
     ensures keys { IfOk result (λ item. keys_rise item ≡ true) }
     ensures nesting { IfOk result (λ item. item_nesting item ≤ 4) }
     ensures count { IfOk result (λ item. count_of item ≤ 100000) }
-    // What is spelled within the limits is read, unless memory runs out.
+    // What is spelled within the limits is read.
     ensures only { (item : Item) (count : ℕ) → count ≤ 100000 → Encodes 4 item count bytes.now
-        → Gives is_memory (λ x. x) result (Ok item) }
-    // Where a front of the bytes spells an item, what follows it is refused, and nothing else is.
+        → UnlessMemory Memory (Ok item) result }
+    // Where a front of the bytes spells an item, what follows it is refused.
     ensures trailing { (item : Item) (count n : ℕ) → n < length bytes.now → count ≤ 100000
-        → Encodes 4 item count (take n bytes.now) → Gives is_memory (λ x. x) result (Err (Trailing n)) }
-    // Which item, or which refusal, it is.
-    ensures exact { Gives is_memory (λ x. x) result (reading bytes.now) }
+        → Encodes 4 item count (take n bytes.now) → UnlessMemory Memory (Err (Trailing n)) result }
+    // The answer is what the bytes are: their item, or the fault with which they are refused.
+    ensures reads { result ≢ Err Memory → ReadsAs bytes.now result }
+    // There is no other answer.
+    ensures exact { (outcome : Result Item CborFault) → ReadsAs bytes.now outcome
+        → UnlessMemory Memory outcome result }
 {
     read_all(alloc, bytes)
 }

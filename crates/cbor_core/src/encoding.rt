@@ -3,7 +3,7 @@
 ghost use Rattle.std.specs.Prelude.{◌≡◌, ◌≤◌, ◌<◌, ◌&&◌, ◌^◌, ◌++◌, true, length, nat_lt, IfOk, OnOk, Ok};
 ghost use Rattle.std.specs.List.{flat_map, list_all};
 ghost use Rattle.cbor_core.specs.Grammar.{head_of, Encodes};
-ghost use Rattle.cbor_core.specs.Reading.{reading};
+ghost use Rattle.cbor_core.specs.Refusals.{ReadsAs};
 ghost use Rattle.cbor_core.specs.Writing.{encoding_of, item_nesting, count_of, keys_rise, fits};
 
 use crate::heads::head;
@@ -103,7 +103,7 @@ pub fn encode(alloc: Global, item: &Item) -> Result<Vec<u8>, Memory>
     // They spell the item.
     ensures spelled { IfOk result (λ bytes. Encodes 4 item.now (count_of item.now) bytes.items) }
     // They read back as the item.
-    ensures reads_back { IfOk result (λ bytes. reading bytes.items ≡ Ok item.now) }
+    ensures reads_back { IfOk result (λ bytes. ReadsAs bytes.items (Ok item.now)) }
 {
     let mut out = Vec::new(alloc);
     write_item(&mut out, item)?;

@@ -2,8 +2,8 @@
 //! whole numbers, byte strings, texts, lists, and maps from whole numbers, of definite length and
 //! with the shortest arguments.
 //!
-//! `specs/Grammar` says which bytes spell an item, and `specs/Reading` which refusal of an input
-//! comes first from left to right.
+//! `specs/Grammar` says which bytes spell an item, and `specs/Refusals` with which fault an input is
+//! refused, the first from left to right.
 #![tactic(auto)]
 
 mod decoding;
@@ -20,7 +20,9 @@ pub use encoding::encode;
 pub use fault::CborFault;
 pub use heads::{HeadBytes, head};
 pub use item::{Bytes, Item, Pair};
-pub use laws::no_item_begins_another;
+pub use laws::{
+    a_final_fault_stays, a_front_is_truncated, an_input_has_one_outcome, no_item_begins_another,
+};
 
 #[cfg(test)]
 mod tests;

@@ -3,7 +3,7 @@
 ghost use Rattle.std.specs.Prelude.{◌≡◌, ◌^◌};
 ghost use Rattle.std.specs.Int.{w16, w32, w64};
 ghost use Rattle.cbor_core.specs.Internal.Results.{Gives};
-ghost use Rattle.cbor_core.specs.Reading.{is_memory, start_of, byte_at, wide_at, argument_at, string_at, whole_at, blob_at, text_string_at, key_at};
+ghost use Rattle.cbor_core.specs.Internal.Reading.{is_memory, start_of, byte_at, wide_at, argument_at, string_at, whole_at, blob_at, text_string_at, key_at};
 
 use crate::fault::CborFault;
 use crate::item::{Bytes, Item};
@@ -75,7 +75,7 @@ fn read_eight(total: usize, at: u64, bytes: &[u8]) -> Result<(u64, &[u8]), CborF
 }
 
 /// The argument of the head that the bytes begin with, and what follows the head.
-#[tactic(auto, unfolding(crate::specs::Reading::argument_at))]
+#[tactic(auto, unfolding(crate::specs::Internal::Reading::argument_at))]
 pub fn read_argument(total: usize, bytes: &[u8]) -> Result<(u64, &[u8]), CborFault>
     ensures { Gives is_memory (λ x. (x.0, x.1.now)) result (argument_at total bytes.now) }
 {
@@ -97,7 +97,7 @@ pub fn read_argument(total: usize, bytes: &[u8]) -> Result<(u64, &[u8]), CborFau
 }
 
 /// The content of the byte string or text that the bytes begin with, and what follows it.
-#[tactic(auto, unfolding(crate::specs::Reading::string_at))]
+#[tactic(auto, unfolding(crate::specs::Internal::Reading::string_at))]
 fn read_string(total: usize, bytes: &[u8]) -> Result<(&[u8], &[u8]), CborFault>
     ensures { Gives is_memory (λ x. (x.0.now, x.1.now)) result (string_at total bytes.now) }
 {
@@ -109,7 +109,7 @@ fn read_string(total: usize, bytes: &[u8]) -> Result<(&[u8], &[u8]), CborFault>
     Ok(rest.split_at(len))
 }
 
-#[tactic(auto, unfolding(crate::specs::Reading::whole_at))]
+#[tactic(auto, unfolding(crate::specs::Internal::Reading::whole_at))]
 pub fn read_whole(total: usize, left: u32, bytes: &[u8]) -> Result<(Item, u32, &[u8]), CborFault>
     ensures { Gives is_memory (λ x. (x.0, x.1, x.2.now)) result (whole_at total left bytes.now) }
 {
@@ -117,7 +117,7 @@ pub fn read_whole(total: usize, left: u32, bytes: &[u8]) -> Result<(Item, u32, &
     Ok((Item::Whole(value), left, rest))
 }
 
-#[tactic(auto, unfolding(crate::specs::Reading::blob_at))]
+#[tactic(auto, unfolding(crate::specs::Internal::Reading::blob_at))]
 pub fn read_blob(
     alloc: Global,
     total: usize,
@@ -131,7 +131,7 @@ pub fn read_blob(
     Ok((Item::Blob(content), left, rest))
 }
 
-#[tactic(auto, using(crate::proofs::Steps::text_steps), unfolding(crate::specs::Reading::text_string_at))]
+#[tactic(auto, using(crate::proofs::Steps::text_steps), unfolding(crate::specs::Internal::Reading::text_string_at))]
 pub fn read_text(
     alloc: Global,
     total: usize,
@@ -149,7 +149,7 @@ pub fn read_text(
 }
 
 /// The key that the bytes begin with, and what follows it.
-#[tactic(auto, unfolding(crate::specs::Reading::key_at))]
+#[tactic(auto, unfolding(crate::specs::Internal::Reading::key_at))]
 pub fn read_key(total: usize, left: u32, bytes: &[u8]) -> Result<(u64, &[u8]), CborFault>
     ensures { Gives is_memory (λ x. (x.0, x.1.now)) result (key_at total left bytes.now) }
 {

@@ -11,7 +11,7 @@ use Rattle.cbor_core.specs.declared.item.Item.{Item}
 use Rattle.cbor_core.specs.declared.item.Item.TheVariants as v
 use Rattle.cbor_core.specs.declared.fault.CborFault.{CborFault}
 use Rattle.cbor_core.specs.Grammar.{Encodes}
-use Rattle.cbor_core.specs.Reading.{reading}
+use Rattle.cbor_core.specs.Internal.Reading.{reading}
 use Rattle.cbor_core.specs.Writing.{count_of}
 use Rattle.base_types.specs.Order.{rise}
 use Rattle.cbor_core.proofs.Whole.{found_by, count_by, read_again}

@@ -10,7 +10,7 @@ use Rattle.cbor_core.specs.declared.fault.CborFault.{CborFault}
 use Rattle.cbor_core.specs.declared.item.Item.{Item, out-Item}
 use Rattle.cbor_core.specs.declared.item.Item.TheOpen.{Item-F}
 use Rattle.cbor_core.specs.declared.item.Pair.{Pair}
-use Rattle.cbor_core.specs.Reading.{reading}
+use Rattle.cbor_core.specs.Internal.Reading.{reading}
 use Rattle.cbor_core.specs.Internal.Results.{◌>>=◌}
 use Rattle.base_types.specs.Order.{rise}
 use Rattle.proof_cbor.specs.declared.fault.Part.{Part}

@@ -1,6 +1,6 @@
 use Rattle.std.proofs.Common.{sym, ◌∙◌}
 use Rattle.cbor_core.proofs.Steps.{entries_more, entries_repeated}
-use Rattle.cbor_core.specs.Reading.{item_at}
+use Rattle.cbor_core.specs.Internal.Reading.{item_at}
 use Rattle.cbor_core.proofs.decoding.+item.Goals as goal
 
 pub read_entries-returns-then-contains_key : goal.read_entries-returns-then-contains_key

@@ -1,5 +1,5 @@
 use Rattle.std.proofs.Common.{◌≡◌, [], ◌+◌, ◌-◌, ◌*◌}
-use Rattle.cbor_core.specs.Reading.{items_at, entries_at, item_at}
+use Rattle.cbor_core.specs.Internal.Reading.{items_at, entries_at, item_at}
 use Rattle.cbor_core.proofs.decoding.+item.Given as goal
 
 -- an item calls its list or map one level deeper, a list or map its items, and these each item
