@@ -40,18 +40,24 @@ pub fn canonicalise(alloc: Global, quads: &TextQuads, limits: &Limits) -> Result
     ensures ok { (q : List Statement) → quads.now ≡ map text_quad q
         → IfOk result (λ c. AnswersRun q limits.now c) }
     // Each blank node has one label, and no two have the same.
-    ensures labels { (q : List Statement) → quads.now ≡ map text_quad q → IfOk result (λ c. NameAll q c.labels) }
+    ensures labels { (q : List Statement) → quads.now ≡ map text_quad q
+        → IfOk result (λ c. NameAll q c.labels) }
     // A tie is reported exactly where a run meets one, and without one every run gives these
     // labels.
-    ensures tie { (q : List Statement) → quads.now ≡ map text_quad q → IfOk result (λ c. (c.tie ≡ true) ↔ MeetsTie (nodes q)) }
+    ensures tie { (q : List Statement) → quads.now ≡ map text_quad q
+        → IfOk result (λ c. (c.tie ≡ true) ↔ MeetsTie (nodes q)) }
     ensures every_run { (q : List Statement) → quads.now ≡ map text_quad q
-        → IfOk result (λ c. c.tie ≡ false → (r : RunOutcome Blank) → IsRun (nodes q) r → c.labels ≡ canonical_labels q r.issuer) }
+        → IfOk result (λ c. c.tie ≡ false → (r : RunOutcome Blank) → IsRun (nodes q) r
+        → c.labels ≡ canonical_labels q r.issuer) }
     // A limit is answered only where some run is over it, and so not within both limits.
-    ensures work { (q : List Statement) (limit : ℕ) → quads.now ≡ map text_quad q → result ≡ Err (fault.TooMuchWork limit)
+    ensures work { (q : List Statement) (limit : ℕ) → quads.now ≡ map text_quad q
+        → result ≡ Err (fault.TooMuchWork limit)
         → (limit ≡ limits.now.work) × WorkOver (nodes q) limit }
-    ensures deep { (q : List Statement) (limit : ℕ) → quads.now ≡ map text_quad q → result ≡ Err (fault.TooDeep limit)
+    ensures deep { (q : List Statement) (limit : ℕ) → quads.now ≡ map text_quad q
+        → result ≡ Err (fault.TooDeep limit)
         → (limit ≡ limits.now.depth) × DepthOver (nodes q) limit }
-    ensures within { (q : List Statement) → quads.now ≡ map text_quad q → WithinLimits (nodes q) limits.now.work limits.now.depth
+    ensures within { (q : List Statement) → quads.now ≡ map text_quad q
+        → WithinLimits (nodes q) limits.now.work limits.now.depth
         → (error : _) → result ≡ Err error → error ≡ fault.Memory }
 {
     canonical_form(alloc, quads, limits)
@@ -60,7 +66,8 @@ pub fn canonicalise(alloc: Global, quads: &TextQuads, limits: &Limits) -> Result
 /// First-degree hashes, the table of the blank nodes, their canonical numbers, and then labels and
 /// lines.
 fn canonical_form(alloc: Global, quads: &TextQuads, limits: &Limits) -> Result<Canon, CanonFault>
-    ensures { (q : List Statement) → quads.now ≡ map text_quad q → Canonicalised q limits.now result }
+    ensures { (q : List Statement) → quads.now ≡ map text_quad q
+        → Canonicalised q limits.now result }
 {
     let firsts = first_hashes(alloc, quads)?;
     let table = node_table(alloc, quads, firsts.as_slice(), &[])?;

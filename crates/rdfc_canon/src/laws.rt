@@ -12,7 +12,8 @@ ghost use Rattle.rdfc_canon.specs.Canon.{DepthOver, IsCanonicalIssuer, IsRun, Me
 
 /// Every dataset has a run, whatever the digest is.
 pub fn every_dataset_has_a_run()
-    ensures { (digest : List ℕ → List ℕ) (q : List Statement) → (r : RunOutcome Blank) × IsRun (nodes_of digest q) r }
+    ensures { (digest : List ℕ → List ℕ) (q : List Statement)
+        → (r : RunOutcome Blank) × IsRun (nodes_of digest q) r }
 {}
 
 /// The runs of a dataset agree on whether a tie is met, and without one on the canonical issuer.
@@ -20,12 +21,14 @@ pub fn runs_agree()
     ensures tie { (digest : List ℕ → List ℕ) (q : List Statement) (r s : RunOutcome Blank)
         → IsRun (nodes_of digest q) r → IsRun (nodes_of digest q) s → r.tie ≡ s.tie }
     ensures labels { (digest : List ℕ → List ℕ) (q : List Statement) (r s : RunOutcome Blank)
-        → IsRun (nodes_of digest q) r → IsRun (nodes_of digest q) s → r.tie ≡ false → r.issuer ≡ s.issuer }
+        → IsRun (nodes_of digest q) r → IsRun (nodes_of digest q) s → r.tie ≡ false
+        → r.issuer ≡ s.issuer }
 {}
 
 /// The canonical issuer of a run names each blank node of the dataset once, and nothing else.
 pub fn a_run_names_each_blank_node_once()
-    ensures each { (digest : List ℕ → List ℕ) (q : List Statement) (r : RunOutcome Blank) (b : Blank)
+    ensures each { (digest : List ℕ → List ℕ) (q : List Statement) (r : RunOutcome Blank)
+        (b : Blank)
         → IsRun (nodes_of digest q) r → StandsIn q b ↔ Contains r.issuer b }
     ensures once { (digest : List ℕ → List ℕ) (q : List Statement) (r : RunOutcome Blank)
         → IsRun (nodes_of digest q) r → AllDiffer r.issuer }
@@ -35,32 +38,46 @@ pub fn a_run_names_each_blank_node_once()
 /// these meet ties alike, have the same work and depth over their runs, and without a tie the same
 /// labels and the same canonical text.
 pub fn names_do_not_matter()
-    ensures ties { (digest : List ℕ → List ℕ) (q p : List Statement) → Same q p → IsDataset q → IsDataset p
+    ensures ties { (digest : List ℕ → List ℕ) (q p : List Statement)
+        → Same q p → IsDataset q → IsDataset p
         → MeetsTie (nodes_of digest q) ↔ MeetsTie (nodes_of digest p) }
-    ensures work { (digest : List ℕ → List ℕ) (q p : List Statement) (n : ℕ) → Same q p → IsDataset q → IsDataset p
+    ensures work { (digest : List ℕ → List ℕ) (q p : List Statement) (n : ℕ)
+        → Same q p → IsDataset q → IsDataset p
         → WorkOver (nodes_of digest q) n ↔ WorkOver (nodes_of digest p) n }
-    ensures depth { (digest : List ℕ → List ℕ) (q p : List Statement) (n : ℕ) → Same q p → IsDataset q → IsDataset p
+    ensures depth { (digest : List ℕ → List ℕ) (q p : List Statement) (n : ℕ)
+        → Same q p → IsDataset q → IsDataset p
         → DepthOver (nodes_of digest q) n ↔ DepthOver (nodes_of digest p) n }
-    ensures labels { (digest : List ℕ → List ℕ) (q p : List Statement) (s : Same q p) (c : List Blank) → IsDataset q → IsDataset p
-        → IsCanonicalIssuer (nodes_of digest q) c → IsCanonicalIssuer (nodes_of digest p) (map (image s.pairs) c) }
-    ensures text { (digest : List ℕ → List ℕ) (q p : List Statement) (c d : List Blank) → Same q p → IsDataset q → IsDataset p
+    ensures labels { (digest : List ℕ → List ℕ) (q p : List Statement) (s : Same q p)
+        (c : List Blank)
+        → IsDataset q → IsDataset p
+        → IsCanonicalIssuer (nodes_of digest q) c
+        → IsCanonicalIssuer (nodes_of digest p) (map (image s.pairs) c) }
+    ensures text { (digest : List ℕ → List ℕ) (q p : List Statement) (c d : List Blank)
+        → Same q p → IsDataset q → IsDataset p
         → IsCanonicalIssuer (nodes_of digest q) c → IsCanonicalIssuer (nodes_of digest p) d
-        → canonical_text (canonical_id (nodes_of digest q) c) q ≡ canonical_text (canonical_id (nodes_of digest p) d) p }
+        → canonical_text (canonical_id (nodes_of digest q) c) q
+        ≡ canonical_text (canonical_id (nodes_of digest p) d) p }
 {}
 
 /// Nor does it depend on the order of the statements.
 pub fn order_does_not_matter()
-    ensures ties { (digest : List ℕ → List ℕ) (q p : List Statement) → IsPermutation q p
+    ensures ties { (digest : List ℕ → List ℕ) (q p : List Statement)
+        → IsPermutation q p
         → MeetsTie (nodes_of digest q) ↔ MeetsTie (nodes_of digest p) }
-    ensures work { (digest : List ℕ → List ℕ) (q p : List Statement) (n : ℕ) → IsPermutation q p
+    ensures work { (digest : List ℕ → List ℕ) (q p : List Statement) (n : ℕ)
+        → IsPermutation q p
         → WorkOver (nodes_of digest q) n ↔ WorkOver (nodes_of digest p) n }
-    ensures depth { (digest : List ℕ → List ℕ) (q p : List Statement) (n : ℕ) → IsPermutation q p
+    ensures depth { (digest : List ℕ → List ℕ) (q p : List Statement) (n : ℕ)
+        → IsPermutation q p
         → DepthOver (nodes_of digest q) n ↔ DepthOver (nodes_of digest p) n }
-    ensures labels { (digest : List ℕ → List ℕ) (q p : List Statement) (c : List Blank) → IsPermutation q p
+    ensures labels { (digest : List ℕ → List ℕ) (q p : List Statement) (c : List Blank)
+        → IsPermutation q p
         → IsCanonicalIssuer (nodes_of digest q) c → IsCanonicalIssuer (nodes_of digest p) c }
-    ensures text { (digest : List ℕ → List ℕ) (q p : List Statement) (c d : List Blank) → IsPermutation q p
+    ensures text { (digest : List ℕ → List ℕ) (q p : List Statement) (c d : List Blank)
+        → IsPermutation q p
         → IsCanonicalIssuer (nodes_of digest q) c → IsCanonicalIssuer (nodes_of digest p) d
-        → canonical_text (canonical_id (nodes_of digest q) c) q ≡ canonical_text (canonical_id (nodes_of digest p) d) p }
+        → canonical_text (canonical_id (nodes_of digest q) c) q
+        ≡ canonical_text (canonical_id (nodes_of digest p) d) p }
 {}
 
 /// Datasets with one canonical text are the same up to the names of blank nodes, whatever was taken
@@ -68,13 +85,15 @@ pub fn order_does_not_matter()
 /// number has 64 bits.)
 pub fn one_text_is_of_one_dataset()
     ensures same { (digest : List ℕ → List ℕ) (q p : List Statement) (r s : RunOutcome Blank)
-        → All IsStatement q → All IsStatement p → length r.issuer ≤ 2 ^ 64 → length s.issuer ≤ 2 ^ 64
+        → All IsStatement q → All IsStatement p
+        → length r.issuer ≤ 2 ^ 64 → length s.issuer ≤ 2 ^ 64
         → IsRun (nodes_of digest q) r → IsRun (nodes_of digest p) s
         → canonical_text (canonical_id (nodes_of digest q) r.issuer) q
         ≡ canonical_text (canonical_id (nodes_of digest p) s.issuer) p
         → Same q p }
     ensures exactly { (digest : List ℕ → List ℕ) (q p : List Statement) (r s : RunOutcome Blank)
-        → All IsStatement q → All IsStatement p → length r.issuer ≤ 2 ^ 64 → length s.issuer ≤ 2 ^ 64
+        → All IsStatement q → All IsStatement p
+        → length r.issuer ≤ 2 ^ 64 → length s.issuer ≤ 2 ^ 64
         → IsDataset q → IsDataset p → IsRun (nodes_of digest q) r → IsRun (nodes_of digest p) s
         → r.tie ≡ false
         → (canonical_text (canonical_id (nodes_of digest q) r.issuer) q

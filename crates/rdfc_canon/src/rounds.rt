@@ -29,7 +29,8 @@ pub fn round(
     ensures kept { meter.old.spent ≤ meter.old.limits.work
         → IfOk result (λ _. meter.new.spent ≤ meter.old.limits.work) }
     ensures ok { IfOk result (λ tie.
-        AnswersRound (table_nodes table.now) canonical.old members.now canonical.new tie (spending meter.old meter.new 1)) }
+        AnswersRound (table_nodes table.now) canonical.old members.now canonical.new tie
+        (spending meter.old meter.new 1)) }
     ensures fault { IfErr result (IsFaultOf meter.old.limits
         (HashesOver (table_nodes table.now) canonical.old
         (lacking (table_nodes table.now) canonical.old members.now) meter.old.spent)
@@ -63,7 +64,8 @@ fn hash_members(
         → IfOk result (λ _. meter.new.spent ≤ meter.old.limits.work) }
     ensures ok { IfOk result (λ paths.
         AnswersHashes (table_nodes table.now) canonical.now
-        (lacking (table_nodes table.now) canonical.now members.now) paths.items (spending meter.old meter.new 1)) }
+        (lacking (table_nodes table.now) canonical.now members.now) paths.items
+        (spending meter.old meter.new 1)) }
     ensures fault { IfErr result (IsFaultOf meter.old.limits
         (HashesOver (table_nodes table.now) canonical.now
         (lacking (table_nodes table.now) canonical.now members.now) meter.old.spent)

@@ -69,8 +69,8 @@ pub fn n_degree(
 {
     let CallByNumber {
         table,
-        canonical: named,
-        issuer: begun,
+        canonical: canonical_numbers,
+        issuer: issuer_numbers,
     } = number_all(
         alloc,
         quads,
@@ -82,7 +82,15 @@ pub fn n_degree(
     let Some(number) = table.number_of(node.as_str()) else {
         unreachable!()
     };
-    let path = match hash_n_degree(alloc, &table, &named, number, begun, depth, meter) {
+    let path = match hash_n_degree(
+        alloc,
+        &table,
+        &canonical_numbers,
+        number,
+        issuer_numbers,
+        depth,
+        meter,
+    ) {
         Ok(path) => path,
         Err(fault) => return Err(fault),
     };
