@@ -14,8 +14,9 @@ use Rattle.json_tree.proofs.TreeLemmas.{names_at-members, text_of-Text}
 use Rattle.nquads.specs.Terms.{Statement}
 use Rattle.ld_rdf.specs.Plain.{has_noncharacter}
 use Rattle.ld_rdf.specs.Flat.{at_context, at_id, HasText, term_place, IsFlat}
-use Rattle.ld_rdf.specs.Parts.{text_at, is_definition, property_of, is_entry, described, flat_statements}
-use Rattle.ld_rdf.proofs.Helpers.{option_map-Some, same_value, equal_text, list_all-from}
+use Rattle.ld_rdf.specs.Internal.Parts.{member_text, is_definition, property_of, is_id_or_context}
+use Rattle.ld_rdf.proofs.WholeRequests.{document_statements, flat_statements}
+use Rattle.ld_rdf.proofs.OptionsAndLists.{option_map-Some, same_value, equal_text, list_all-from}
 use Rattle.ld_rdf.proofs.Shapes.{Shape, child_is, names_down, at_term, at_member, terms_lawful, document_lawful, parts}
 use Rattle.ld_rdf.proofs.Meaning.{text_at-from, entry_false, property_from, statements_exist, value_at_member}
 
@@ -108,7 +109,7 @@ module _ (r : Tree) (lawful : is_lawful r ≡ true) (f : IsFlat r) where
         let text : text_of m.value ≡ Some d.mapping = ap text_of (same_value (value_of m.key w.shape.terms) _ _ here there) ∙ text_of-Text d.mapping in
         rw (d.plain, text, d.plain_iri)
 
-    property_there : (m : Member Tree) → Contains w.shape.members m → is_entry m.key ≡ false → (p : List ℕ × List ℕ) × (property_of w.shape.terms m ≡ Some p)
+    property_there : (m : Member Tree) → Contains w.shape.members m → is_id_or_context m.key ≡ false → (p : List ℕ × List ℕ) × (property_of w.shape.terms m ≡ Some p)
     property_there m c e =
         let known : Contains f.names m.key = subst (λ (l : List (List ℕ)). Contains l m.key) w.names (Contains-map (λ (k : Member Tree). k.key) w.shape.members m c) in
         let apart = entry_false m.key e in
@@ -124,11 +125,11 @@ module _ (r : Tree) (lawful : is_lawful r ≡ true) (f : IsFlat r) where
     there_are : (ss : List Statement) × (flat_statements r ≡ Some ss)
     there_are =
         let made = statements_exist w.shape.terms f.id w.shape.members property_there in
-        let id : text_at at_id w.shape.members ≡ Some f.id = text_at-from at_id w.shape.members f.id (sym (at_member r w.shape at_id) ∙ f.identified) in
-        let chosen : text_at at_context w.shape.members ≡ Some f.name = text_at-from at_context w.shape.members f.name (sym (at_member r w.shape at_context) ∙ f.chosen) in
+        let id : member_text at_id w.shape.members ≡ Some f.id = text_at-from at_id w.shape.members f.id (sym (at_member r w.shape at_id) ∙ f.identified) in
+        let chosen : member_text at_context w.shape.members ≡ Some f.name = text_at-from at_context w.shape.members f.name (sym (at_member r w.shape at_context) ∙ f.chosen) in
         let all : list_all is_definition w.shape.terms ≡ true = list_all-from is_definition w.shape.terms defined in
         let same : bytes_eq w.shape.supplied.key f.name ≡ true = equal_text w.shape.supplied.key f.name w.name in
-        let whole : described (w.shape.supplied.key, w.shape.terms) w.shape.members ≡ Some made.0 = rw (id, chosen, f.plain_id, same, all) made.1 in
+        let whole : document_statements (w.shape.supplied.key, w.shape.terms) w.shape.members ≡ Some made.0 = rw (id, chosen, f.plain_id, same, all) made.1 in
         (made.0, parts r w.shape ∙ whole)
 
   -- a flat request has statements

@@ -15,16 +15,18 @@ use Rattle.nquads.specs.declared.quads.TextQuad.{TextQuad}
 use Rattle.nquads.proofs.ReadingTerms.{spelled_one_reading}
 use Rattle.ld_rdf.specs.Plain.{is_iri_character, IsPlainIri}
 use Rattle.ld_rdf.specs.Flat.{property_statement, IsFlat, IsFlatMeaning, Means}
-use Rattle.ld_rdf.specs.Parts.{flat_statements}
-use Rattle.ld_rdf.proofs.Helpers.{and_right, not_true, picked, AllDiffer-images}
+use Rattle.ld_rdf.proofs.WholeRequests.{flat_statements}
+use Rattle.ld_rdf.proofs.OptionsAndLists.{and_right, not_true, picked, AllDiffer-images}
 use Rattle.ld_rdf.proofs.Shapes.{Shape, shape_from_statements, parts}
 use Rattle.ld_rdf.proofs.Meaning.{Description, description, is_flat, means_from, means_to, means_plain}
 
 -- ---- plain IRIs are IRIs
 
+-- the characters of plain IRIs may stand in an IRI
 pub plain_character : (c : ℕ) → is_iri_character c ≡ true → is_forbidden c ≡ false
 plain_character c h = grind (arith, nat_tests)
 
+-- a plain IRI has the characters of an IRI
 pub plain_iri_is_iri : (text : List ℕ) → IsPlainIri text → HasIriCharacters text
 plain_iri_is_iri text h =
     All-weaker (λ c. is_iri_character c ≡ true) (λ c. is_forbidden c ≡ false) plain_character text (AllPass-from_list_all is_iri_character text (and_right (starts_with ◌==◌ text (codes "https://")) _ h))
@@ -35,6 +37,7 @@ xsd_string_is_iri = All-weaker (λ c. not (is_forbidden c) ≡ true) (λ c. is_f
 strings_differ : xsd_string ≢ rdf_lang_string
 strings_differ e = true≢false (ap (λ (t : List ℕ). bytes_eq xsd_string t) e)
 
+-- a property with plain IRIs is a statement
 pub property_is_statement : (id mapping text : List ℕ) → IsPlainIri id → IsPlainIri mapping → IsStatement (property_statement id mapping text)
 property_is_statement id mapping text p q = record {
   subject = plain_iri_is_iri id p;

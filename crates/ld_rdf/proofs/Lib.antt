@@ -1,6 +1,7 @@
-pub mod Helpers
+pub mod OptionsAndLists
 pub mod PlainLemmas
-pub mod Turns
+pub mod LoopTurns
+pub mod WholeRequests
 pub mod Shapes
 pub mod Meaning
 pub mod Complete

@@ -9,19 +9,23 @@ use Rattle.json_tree.proofs.Rising.{both_hold}
 use Rattle.json_tree.proofs.TreeLemmas.{is_lawful-Text, members_of-Object}
 use Rattle.nquads.specs.Terms.{Statement}
 use Rattle.ld_rdf.specs.Flat.{at_context, at_id}
-use Rattle.ld_rdf.specs.Reduced.{without_key, without, put_member, statements_request, taking}
-use Rattle.ld_rdf.specs.Parts.{provided, text_at, two_in, Supplied, supplied_in, agrees, described, flat_statements, text_beside, statements_beside, described_as, chosen_statements, reduced_statements, request_statements}
+use Rattle.ld_rdf.specs.Reduced.{without_key, without, put_member, statements_request, with_context}
+use Rattle.ld_rdf.specs.Internal.Parts.{only_if, member_text, two_in, SuppliedContext, supplied_context, agrees, text_beside, statements_beside, statements_under, chosen_statements, reduced_statements, request_statements}
+use Rattle.ld_rdf.proofs.WholeRequests.{document_statements, flat_statements}
 use Rattle.ld_rdf.proofs.Reductions.{without_lawful, put_lawful, members_of-changed, lawful_object, is_lawful-changed, text_at-without, text_at-put, id_under_put, statements_in-without, statements_in-put, statements_beside_context}
 
 -- ---- lawful
 
+-- a lawful tree without a member is lawful
 pub without_is_lawful : (besides : List ℕ) (t : Tree) → is_lawful t ≡ true → is_lawful (without besides t) ≡ true
 without_is_lawful besides t lawful = is_lawful-changed (without_key besides) t lawful (without_lawful besides)
 
-pub taking_is_lawful : (name : List ℕ) (t : Tree) → is_lawful t ≡ true → is_lawful (taking name t) ≡ true
+-- a lawful tree that takes a context is lawful
+pub taking_is_lawful : (name : List ℕ) (t : Tree) → is_lawful t ≡ true → is_lawful (with_context name t) ≡ true
 taking_is_lawful name t lawful =
     is_lawful-changed (put_member (new_member at_context (v.Text name))) t lawful (λ ms l. put_lawful (new_member at_context (v.Text name)) ms (is_lawful-Text name) l)
 
+-- the request that is made of two lawful trees is lawful
 pub request_is_lawful : (contexts t : Tree) → is_lawful contexts ≡ true → is_lawful t ≡ true → is_lawful (statements_request contexts t) ≡ true
 request_is_lawful contexts t one two = lawful_object _ (record { rising = refl; values = both_hold (is_lawful contexts) _ one (both_hold (is_lawful t) true two refl) })
 
@@ -41,59 +45,62 @@ and_then-swap f (Some x) None = refl
 and_then-swap f (Some x) (Some y) = refl
 
 -- a name that is read of the members may be read before the context is
-name_first : (f : Supplied → List (Member Tree) → Option (List Statement)) (g : List ℕ → Supplied → List (Member Tree) → Option (List Statement)) (name : List (Member Tree) → Option (List ℕ)) → ((c : Supplied) (ms : List (Member Tree)) → f c ms ≡ option_and_then (λ chosen. g chosen c ms) (name ms)) → (s : Option Supplied) (o : Option (List (Member Tree))) → option_and_then (λ c. option_and_then (f c) o) s ≡ option_and_then (λ ms. option_and_then (λ chosen. option_and_then (λ c. option_and_then (g chosen c) o) s) (name ms)) o
+name_first : (f : SuppliedContext → List (Member Tree) → Option (List Statement)) (g : List ℕ → SuppliedContext → List (Member Tree) → Option (List Statement)) (name : List (Member Tree) → Option (List ℕ)) → ((c : SuppliedContext) (ms : List (Member Tree)) → f c ms ≡ option_and_then (λ chosen. g chosen c ms) (name ms)) → (s : Option SuppliedContext) (o : Option (List (Member Tree))) → option_and_then (λ c. option_and_then (f c) o) s ≡ option_and_then (λ ms. option_and_then (λ chosen. option_and_then (λ c. option_and_then (g chosen c) o) s) (name ms)) o
 name_first f g name same s None = sym (and_then-none (λ c. option_and_then (f c) None) (λ c. refl) s)
 name_first f g name same None (Some ms) = and_then-none (λ chosen. option_and_then (λ c. option_and_then (g chosen c) (Some ms)) None) (λ chosen. refl) (name ms)
 name_first f g name same (Some c) (Some ms) = same c ms
 
 -- ---- the statements of members
 
-described-without : (besides : List ℕ) (c : Supplied) (ms : List (Member Tree)) → described c (without_key besides ms) ≡ option_and_then (λ chosen. described_as besides chosen c ms) (text_beside besides at_context ms)
+described-without : (besides : List ℕ) (c : SuppliedContext) (ms : List (Member Tree)) → document_statements c (without_key besides ms) ≡ option_and_then (λ chosen. statements_under besides chosen c ms) (text_beside besides at_context ms)
 described-without besides c ms =
     let id = text_at-without besides at_id ms in
     let chosen = text_at-without besides at_context ms in
     let same = λ (id : List ℕ). statements_in-without c.1 id besides ms in
-    (λ i. option_and_then (λ id. option_and_then (λ chosen. provided (agrees c.0 chosen id c.1) (same id i)) (chosen i)) (id i))
-    ∙ and_then-swap (λ id chosen. provided (agrees c.0 chosen id c.1) (statements_beside besides c.1 id ms)) (text_beside besides at_id ms) (text_beside besides at_context ms)
+    (λ i. option_and_then (λ id. option_and_then (λ chosen. only_if (agrees c.0 chosen id c.1) (same id i)) (chosen i)) (id i))
+    ∙ and_then-swap (λ id chosen. only_if (agrees c.0 chosen id c.1) (statements_beside besides c.1 id ms)) (text_beside besides at_id ms) (text_beside besides at_context ms)
 
-described-taking : (besides name : List ℕ) (c : Supplied) (ms : List (Member Tree)) → described c (put_member (new_member at_context (v.Text name)) (without_key besides ms)) ≡ described_as besides name c ms
+described-taking : (besides name : List ℕ) (c : SuppliedContext) (ms : List (Member Tree)) → document_statements c (put_member (new_member at_context (v.Text name)) (without_key besides ms)) ≡ statements_under besides name c ms
 described-taking besides name c ms =
-    let id : text_at at_id (put_member (new_member at_context (v.Text name)) (without_key besides ms)) ≡ text_beside besides at_id ms = id_under_put (v.Text name) (without_key besides ms) ∙ text_at-without besides at_id ms in
+    let id : member_text at_id (put_member (new_member at_context (v.Text name)) (without_key besides ms)) ≡ text_beside besides at_id ms = id_under_put (v.Text name) (without_key besides ms) ∙ text_at-without besides at_id ms in
     let chosen = text_at-put name (without_key besides ms) in
     let same = λ (id : List ℕ). statements_in-put c.1 id (v.Text name) (without_key besides ms) ∙ statements_in-without c.1 id besides ms in
-    (λ i. option_and_then (λ id. option_and_then (λ chosen. provided (agrees c.0 chosen id c.1) (same id i)) (chosen i)) (id i))
+    (λ i. option_and_then (λ id. option_and_then (λ chosen. only_if (agrees c.0 chosen id c.1) (same id i)) (chosen i)) (id i))
 
-described-whole : (c : Supplied) (ms : List (Member Tree)) → described c ms ≡ option_and_then (λ chosen. described_as at_context chosen c ms) (text_at at_context ms)
+described-whole : (c : SuppliedContext) (ms : List (Member Tree)) → document_statements c ms ≡ option_and_then (λ chosen. statements_under at_context chosen c ms) (member_text at_context ms)
 described-whole c ms =
-    (λ i. option_and_then (λ id. option_and_then (λ chosen. provided (agrees c.0 chosen id c.1) (sym (statements_beside_context c.1 id ms) i)) (text_at at_context ms)) (text_at at_id ms))
-    ∙ and_then-swap (λ id chosen. provided (agrees c.0 chosen id c.1) (statements_beside at_context c.1 id ms)) (text_at at_id ms) (text_at at_context ms)
+    (λ i. option_and_then (λ id. option_and_then (λ chosen. only_if (agrees c.0 chosen id c.1) (sym (statements_beside_context c.1 id ms) i)) (member_text at_context ms)) (member_text at_id ms))
+    ∙ and_then-swap (λ id chosen. only_if (agrees c.0 chosen id c.1) (statements_beside at_context c.1 id ms)) (member_text at_id ms) (member_text at_context ms)
 
 -- ---- the statements of requests
 
-made : (contexts t : Tree) → flat_statements (statements_request contexts t) ≡ option_and_then (λ c. option_and_then (described c) (members_of t)) (supplied_in contexts)
+made : (contexts t : Tree) → flat_statements (statements_request contexts t) ≡ option_and_then (λ c. option_and_then (document_statements c) (members_of t)) (supplied_context contexts)
 made contexts t =
-    ap (λ (o : Option (List (Member Tree))). option_and_then (λ (two : Tree × Tree). option_and_then (λ c. option_and_then (described c) (members_of two.1)) (supplied_in two.0)) (option_and_then two_in o))
+    ap (λ (o : Option (List (Member Tree))). option_and_then (λ (two : Tree × Tree). option_and_then (λ c. option_and_then (document_statements c) (members_of two.1)) (supplied_context two.0)) (option_and_then two_in o))
     (members_of-Object (new_member (codes "contexts") contexts ∷ new_member (codes "document") t ∷ []))
 
+-- the request made of a document without a member has the statements that the code reads off it
 pub document_made : (besides : List ℕ) (contexts document : Tree) → flat_statements (statements_request contexts (without besides document)) ≡ reduced_statements besides contexts document
 document_made besides contexts document =
     let members : members_of (without besides document) ≡ option_map (without_key besides) (members_of document) = members_of-changed (without_key besides) document in
     made contexts (without besides document)
-    ∙ (λ i. option_and_then (λ c. option_and_then (described c) (members i)) (supplied_in contexts))
-    ∙ (λ i. option_and_then (λ c. and_then-map (described c) (without_key besides) (members_of document) i) (supplied_in contexts))
-    ∙ name_first (λ c ms. described c (without_key besides ms)) (described_as besides) (text_beside besides at_context) (described-without besides) (supplied_in contexts) (members_of document)
+    ∙ (λ i. option_and_then (λ c. option_and_then (document_statements c) (members i)) (supplied_context contexts))
+    ∙ (λ i. option_and_then (λ c. and_then-map (document_statements c) (without_key besides) (members_of document) i) (supplied_context contexts))
+    ∙ name_first (λ c ms. document_statements c (without_key besides ms)) (statements_under besides) (text_beside besides at_context) (described-without besides) (supplied_context contexts) (members_of document)
 
-pub options_made : (besides name : List ℕ) (contexts options : Tree) → flat_statements (statements_request contexts (taking name (without besides options))) ≡ chosen_statements besides contexts name options
+-- the request made of options has the statements that the code reads off them
+pub options_made : (besides name : List ℕ) (contexts options : Tree) → flat_statements (statements_request contexts (with_context name (without besides options))) ≡ chosen_statements besides contexts name options
 options_made besides name contexts options =
     let put : List (Member Tree) → List (Member Tree) = put_member (new_member at_context (v.Text name)) in
-    let members : members_of (taking name (without besides options)) ≡ option_map put (option_map (without_key besides) (members_of options)) =
+    let members : members_of (with_context name (without besides options)) ≡ option_map put (option_map (without_key besides) (members_of options)) =
     members_of-changed (put_member (new_member at_context (v.Text name))) (without besides options) ∙ ap (option_map (put_member (new_member at_context (v.Text name)))) (members_of-changed (without_key besides) options) in
-    made contexts (taking name (without besides options))
-    ∙ (λ i. option_and_then (λ c. option_and_then (described c) (members i)) (supplied_in contexts))
-    ∙ (λ i. option_and_then (λ c. (and_then-map (described c) (put_member (new_member at_context (v.Text name))) (option_map (without_key besides) (members_of options))
-    ∙ and_then-map (λ ms. described c (put_member (new_member at_context (v.Text name)) ms)) (without_key besides) (members_of options)
-    ∙ (λ j. option_and_then (λ ms. described-taking besides name c ms j) (members_of options))) i) (supplied_in contexts))
+    made contexts (with_context name (without besides options))
+    ∙ (λ i. option_and_then (λ c. option_and_then (document_statements c) (members i)) (supplied_context contexts))
+    ∙ (λ i. option_and_then (λ c. (and_then-map (document_statements c) (put_member (new_member at_context (v.Text name))) (option_map (without_key besides) (members_of options))
+    ∙ and_then-map (λ ms. document_statements c (put_member (new_member at_context (v.Text name)) ms)) (without_key besides) (members_of options)
+    ∙ (λ j. option_and_then (λ ms. described-taking besides name c ms j) (members_of options))) i) (supplied_context contexts))
 
+-- a whole request has the statements that the code reads off it
 pub whole_made : (r : Tree) → flat_statements r ≡ request_statements r
 whole_made r =
-    (λ i. option_and_then (λ (two : Tree × Tree). name_first described (described_as at_context) (text_at at_context) described-whole (supplied_in two.0) (members_of two.1) i) (option_and_then two_in (members_of r)))
+    (λ i. option_and_then (λ (two : Tree × Tree). name_first document_statements (statements_under at_context) (member_text at_context) described-whole (supplied_context two.0) (members_of two.1) i) (option_and_then two_in (members_of r)))

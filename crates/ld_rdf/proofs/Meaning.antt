@@ -15,18 +15,21 @@ use Rattle.json_tree.proofs.TreeLemmas.{text_of-Some, text_of-Text}
 use Rattle.nquads.specs.Terms.{Statement}
 use Rattle.ld_rdf.specs.Plain.{is_plain_iri, is_plain_term, has_noncharacter}
 use Rattle.ld_rdf.specs.Flat.{at_context, at_id, term_place, document_place, HasText, DefinesTerm, IsFlat, Means, property_statement}
-use Rattle.ld_rdf.specs.Parts.{provided, text_at, is_definition, property_of, is_entry, agrees, statements_in, described}
-use Rattle.ld_rdf.proofs.Helpers.{and_then-Some, option_map-Some, provided-Some, map_or-true, not_true, same_value, and_left, and_right, same_text, equal_text, list_all-contains}
+use Rattle.ld_rdf.specs.Internal.Parts.{only_if, member_text, is_definition, property_of, is_id_or_context, agrees}
+use Rattle.ld_rdf.proofs.WholeRequests.{statements_in, document_statements}
+use Rattle.ld_rdf.proofs.OptionsAndLists.{and_then-Some, option_map-Some, provided-Some, map_or-true, not_true, same_value, and_left, and_right, same_text, equal_text, list_all-contains}
 use Rattle.ld_rdf.proofs.Shapes.{Shape, at_term, at_member, names-request, names-contexts, names-supplied, names-terms, names-document, terms_lawful, document_lawful}
 
 -- ---- texts among members
 
-pub text_at-Some : (key : List ℕ) (ms : List (Member Tree)) (text : List ℕ) → text_at key ms ≡ Some text → value_of key ms ≡ Some (v.Text text)
+-- the text of a member is its value
+pub text_at-Some : (key : List ℕ) (ms : List (Member Tree)) (text : List ℕ) → member_text key ms ≡ Some text → value_of key ms ≡ Some (v.Text text)
 text_at-Some key ms text h =
     let found = and_then-Some text_of (value_of key ms) text h in
     found.1 ∙ ap Some (text_of-Some found.0 text found.2)
 
-pub text_at-from : (key : List ℕ) (ms : List (Member Tree)) (text : List ℕ) → value_of key ms ≡ Some (v.Text text) → text_at key ms ≡ Some text
+-- the member whose value is a text has that text
+pub text_at-from : (key : List ℕ) (ms : List (Member Tree)) (text : List ℕ) → value_of key ms ≡ Some (v.Text text) → member_text key ms ≡ Some text
 text_at-from key ms text h = ap (option_and_then text_of) h ∙ text_of-Text text
 
 same_content : (s t : List ℕ) → v.Text s ≡ v.Text t → s ≡ t
@@ -43,10 +46,11 @@ member_of_value ms key t d s = (get_or ms s.place d, (s.place, s.within, get_or_
 
 -- ---- entries and properties
 
-pub entry_false : (key : List ℕ) → is_entry key ≡ false → (key ≢ at_id) × (key ≢ at_context)
+-- what is neither `@id` nor `@context` differs from both
+pub entry_false : (key : List ℕ) → is_id_or_context key ≡ false → (key ≢ at_id) × (key ≢ at_context)
 entry_false key h = (λ e. true≢false (sym (ap (λ b. b || bytes_eq key at_context) (equal_text key at_id e)) ∙ h), λ e. true≢false (sym (or_right (bytes_eq key at_id) _ (equal_text key at_context e)) ∙ h))
 
-entry_from : (key : List ℕ) → key ≢ at_id → key ≢ at_context → is_entry key ≡ false
+entry_from : (key : List ℕ) → key ≢ at_id → key ≢ at_context → is_id_or_context key ≡ false
 entry_from key not_id not_context = elim (cases_Bool (bytes_eq key at_id)) [
   | inl e ↦ absurd (not_id (same_text key at_id e))
   | inr e ↦ elim (cases_Bool (bytes_eq key at_context)) [
@@ -57,14 +61,14 @@ entry_from key not_id not_context = elim (cases_Bool (bytes_eq key at_id)) [
 
 -- what a property is made of
 record Property (terms : List (Member Tree)) (m : Member Tree) (p : List ℕ × List ℕ) : Type 0 where
-  pub mapping : text_at m.key terms ≡ Some p.0
+  pub mapping : member_text m.key terms ≡ Some p.0
   pub text : text_of m.value ≡ Some p.1
   pub carried : has_noncharacter p.1 ≡ false
 
 property_parts : (terms : List (Member Tree)) (m : Member Tree) (p : List ℕ × List ℕ) → property_of terms m ≡ Some p → Property terms m p
 property_parts terms m p h =
-    let outer = and_then-Some (λ mapping. option_and_then (λ text. provided (not (has_noncharacter text)) (Some (mapping, text))) (text_of m.value)) (text_at m.key terms) p h in
-    let inner = and_then-Some (λ text. provided (not (has_noncharacter text)) (Some (outer.0, text))) (text_of m.value) p outer.2 in
+    let outer = and_then-Some (λ mapping. option_and_then (λ text. only_if (not (has_noncharacter text)) (Some (mapping, text))) (text_of m.value)) (member_text m.key terms) p h in
+    let inner = and_then-Some (λ text. only_if (not (has_noncharacter text)) (Some (outer.0, text))) (text_of m.value) p outer.2 in
     let given = provided-Some (not (has_noncharacter inner.0)) (Some (outer.0, inner.0)) p inner.2 in
     let pair : (outer.0, inner.0) ≡ p = same_value (Some (outer.0, inner.0)) (outer.0, inner.0) p refl given.1 in
     record {
@@ -73,25 +77,26 @@ property_parts terms m p h =
       carried = ap has_noncharacter (sym (ap (λ (q : List ℕ × List ℕ). q.1) pair)) ∙ not_true (has_noncharacter inner.0) given.0;
     }
 
-pub property_from : (terms : List (Member Tree)) (m : Member Tree) (mapping text : List ℕ) → text_at m.key terms ≡ Some mapping → text_of m.value ≡ Some text → has_noncharacter text ≡ false → property_of terms m ≡ Some (mapping, text)
+-- a term with an IRI and a text that can be carried are a property
+pub property_from : (terms : List (Member Tree)) (m : Member Tree) (mapping text : List ℕ) → member_text m.key terms ≡ Some mapping → text_of m.value ≡ Some text → has_noncharacter text ≡ false → property_of terms m ≡ Some (mapping, text)
 property_from terms m mapping text p q r = rw (p, q, r)
 
 -- ---- the statements of the members
 
 module _ (terms : List (Member Tree)) (id : List ℕ) where
   -- a turn over a member, by whether it is an entry
-  turn_entry : (m : Member Tree) (ms : List (Member Tree)) → is_entry m.key ≡ true → statements_in terms id (m ∷ ms) ≡ statements_in terms id ms
+  turn_entry : (m : Member Tree) (ms : List (Member Tree)) → is_id_or_context m.key ≡ true → statements_in terms id (m ∷ ms) ≡ statements_in terms id ms
   turn_entry m ms h = rw h
 
-  turn_property : (m : Member Tree) (ms : List (Member Tree)) → is_entry m.key ≡ false → statements_in terms id (m ∷ ms) ≡ option_and_then (λ p. option_map (λ more. property_statement id p.0 p.1 ∷ more) (statements_in terms id ms)) (property_of terms m)
+  turn_property : (m : Member Tree) (ms : List (Member Tree)) → is_id_or_context m.key ≡ false → statements_in terms id (m ∷ ms) ≡ option_and_then (λ p. option_map (λ more. property_statement id p.0 p.1 ∷ more) (statements_in terms id ms)) (property_of terms m)
   turn_property m ms h = rw h
 
   -- each property has its statement
-  pub statement_of : (ms : List (Member Tree)) (ss : List Statement) (m : Member Tree) → statements_in terms id ms ≡ Some ss → Contains ms m → is_entry m.key ≡ false → (p : List ℕ × List ℕ) × (property_of terms m ≡ Some p) × Contains ss (property_statement id p.0 p.1)
+  pub statement_of : (ms : List (Member Tree)) (ss : List Statement) (m : Member Tree) → statements_in terms id ms ≡ Some ss → Contains ms m → is_id_or_context m.key ≡ false → (p : List ℕ × List ℕ) × (property_of terms m ≡ Some p) × Contains ss (property_statement id p.0 p.1)
   statement_of [] ss m h c e = absurd (Contains-nil m c)
-  statement_of (n ∷ ms) ss m h c e = elim (cases_Bool (is_entry n.key)) [
+  statement_of (n ∷ ms) ss m h c e = elim (cases_Bool (is_id_or_context n.key)) [
     | inl entry ↦ elim (Contains-cons_cases n ms m c) [
-      | inl same ↦ absurd (true≢false (sym entry ∙ ap (λ (k : Member Tree). is_entry k.key) same ∙ e))
+      | inl same ↦ absurd (true≢false (sym entry ∙ ap (λ (k : Member Tree). is_id_or_context k.key) same ∙ e))
       | inr later ↦ statement_of ms ss m (sym (turn_entry n ms entry) ∙ h) later e
     ]
     | inr other ↦
@@ -106,9 +111,9 @@ module _ (terms : List (Member Tree)) (id : List ℕ) where
   ]
 
   -- and each statement comes from a property
-  pub origin_of : (ms : List (Member Tree)) (ss : List Statement) (s : Statement) → statements_in terms id ms ≡ Some ss → Contains ss s → (m : Member Tree) × (p : List ℕ × List ℕ) × Contains ms m × (is_entry m.key ≡ false) × (property_of terms m ≡ Some p) × (s ≡ property_statement id p.0 p.1)
+  pub origin_of : (ms : List (Member Tree)) (ss : List Statement) (s : Statement) → statements_in terms id ms ≡ Some ss → Contains ss s → (m : Member Tree) × (p : List ℕ × List ℕ) × Contains ms m × (is_id_or_context m.key ≡ false) × (property_of terms m ≡ Some p) × (s ≡ property_statement id p.0 p.1)
   origin_of [] ss s h c = absurd (Contains-nil s (subst (λ (l : List Statement). Contains l s) (same_value (Some []) ss [] h refl) c))
-  origin_of (n ∷ ms) ss s h c = elim (cases_Bool (is_entry n.key)) [
+  origin_of (n ∷ ms) ss s h c = elim (cases_Bool (is_id_or_context n.key)) [
     | inl entry ↦
         let o = origin_of ms ss s (sym (turn_entry n ms entry) ∙ h) c in
         (o.0, o.1, Contains-there n ms o.0 o.2, o.3, o.4, o.5)
@@ -124,11 +129,11 @@ module _ (terms : List (Member Tree)) (id : List ℕ) where
   ]
 
   -- the members have statements where each property is one
-  pub statements_exist : (ms : List (Member Tree)) → ((m : Member Tree) → Contains ms m → is_entry m.key ≡ false → (p : List ℕ × List ℕ) × (property_of terms m ≡ Some p)) → (ss : List Statement) × (statements_in terms id ms ≡ Some ss)
+  pub statements_exist : (ms : List (Member Tree)) → ((m : Member Tree) → Contains ms m → is_id_or_context m.key ≡ false → (p : List ℕ × List ℕ) × (property_of terms m ≡ Some p)) → (ss : List Statement) × (statements_in terms id ms ≡ Some ss)
   statements_exist [] h = ([], refl)
   statements_exist (n ∷ ms) h =
       let later = statements_exist ms (λ m c e. h m (Contains-there n ms m c) e) in
-      elim (cases_Bool (is_entry n.key)) [
+      elim (cases_Bool (is_id_or_context n.key)) [
         | inl entry ↦ (later.0, turn_entry n ms entry ∙ later.1)
         | inr other ↦
             let p = h n (Contains-here n ms) other in
@@ -140,16 +145,17 @@ module _ (terms : List (Member Tree)) (id : List ℕ) where
 -- what `described` says where it gives statements
 pub record Description (name : List ℕ) (terms members : List (Member Tree)) (ss : List Statement) : Type 0 where
   pub id : List ℕ
-  pub identified : text_at at_id members ≡ Some id
+  pub identified : member_text at_id members ≡ Some id
   pub plain : is_plain_iri id ≡ true
-  pub chosen : text_at at_context members ≡ Some name
+  pub chosen : member_text at_context members ≡ Some name
   pub definitions : list_all is_definition terms ≡ true
   pub statements : statements_in terms id members ≡ Some ss
 
-pub description : (name : List ℕ) (terms members : List (Member Tree)) (ss : List Statement) → described (name, terms) members ≡ Some ss → Description name terms members ss
+-- a document with statements is described by them
+pub description : (name : List ℕ) (terms members : List (Member Tree)) (ss : List Statement) → document_statements (name, terms) members ≡ Some ss → Description name terms members ss
 description name terms members ss h =
-    let found = and_then-Some (λ id. option_and_then (λ chosen. provided (agrees name chosen id terms) (statements_in terms id members)) (text_at at_context members)) (text_at at_id members) ss h in
-    let chosen = and_then-Some (λ chosen. provided (agrees name chosen found.0 terms) (statements_in terms found.0 members)) (text_at at_context members) ss found.2 in
+    let found = and_then-Some (λ id. option_and_then (λ chosen. only_if (agrees name chosen id terms) (statements_in terms id members)) (member_text at_context members)) (member_text at_id members) ss h in
+    let chosen = and_then-Some (λ chosen. only_if (agrees name chosen found.0 terms) (statements_in terms found.0 members)) (member_text at_context members) ss found.2 in
     let given = provided-Some (agrees name chosen.0 found.0 terms) (statements_in terms found.0 members) ss chosen.2 in
     let first = and_left (is_plain_iri found.0 && bytes_eq name chosen.0) (list_all is_definition terms) given.0 in
     record {
@@ -204,7 +210,7 @@ module _ (r : Tree) (lawful : is_lawful r ≡ true) (s : Shape r) (ss : List Sta
   property_named : (key : List ℕ) → Contains (map (λ m. m.key) s.members) key → key ≢ at_id → key ≢ at_context → (p : List ℕ × List ℕ) × PropertyAt key p
   property_named key c not_id not_context =
       let found = Contains-from_map (λ (m : Member Tree). m.key) s.members key c in
-      let plain : is_entry found.0.key ≡ false = ap is_entry found.2 ∙ entry_from key not_id not_context in
+      let plain : is_id_or_context found.0.key ≡ false = ap is_id_or_context found.2 ∙ entry_from key not_id not_context in
       let p = statement_of s.terms d.id s.members ss found.0 d.statements found.1 plain in
       (p.0, subst (λ (k : List ℕ). PropertyAt k p.0) found.2 (property_at found.0 p.0 found.1 p.1))
 
@@ -255,11 +261,11 @@ module _ (r : Tree) (lawful : is_lawful r ≡ true) (s : Shape r) (ss : List Sta
       let id : m.id ≡ d.id = same_content m.id d.id (same_value (look (document_place at_id) r) _ _ m.identified identified_at) in
       let stands : value_of m.key s.members ≡ Some (v.Text m.text) = sym (at_member r s m.key) ∙ m.value in
       let found = member_of_value s.members m.key (v.Text m.text) (record { key = m.key; value = v.Text m.text }) (value_of-Some s.members m.key (v.Text m.text) stands) in
-      let plain : is_entry found.0.key ≡ false = ap is_entry found.2 ∙ entry_from m.key m.not_id m.not_context in
+      let plain : is_id_or_context found.0.key ≡ false = ap is_id_or_context found.2 ∙ entry_from m.key m.not_id m.not_context in
       let p = statement_of s.terms d.id s.members ss found.0 d.statements found.1 plain in
       let q = property_parts s.terms found.0 p.0 p.1 in
       let term : value_of m.key s.terms ≡ Some (v.Text m.mapping) = sym (at_term r s m.key) ∙ ap (λ (n : List ℕ). look (term_place n m.key) r) (sym name) ∙ m.term in
-      let mapping : p.0.0 ≡ m.mapping = same_value (text_at found.0.key s.terms) _ _ q.mapping (ap (λ (k : List ℕ). text_at k s.terms) found.2 ∙ text_at-from m.key s.terms m.mapping term) in
+      let mapping : p.0.0 ≡ m.mapping = same_value (member_text found.0.key s.terms) _ _ q.mapping (ap (λ (k : List ℕ). member_text k s.terms) found.2 ∙ text_at-from m.key s.terms m.mapping term) in
       let text : p.0.1 ≡ m.text = same_value (text_of found.0.value) _ _ q.text (ap text_of found.3 ∙ text_of-Text m.text) in
       let same : property_statement d.id p.0.0 p.0.1 ≡ t = (λ i. property_statement (sym id i) (mapping i) (text i)) ∙ sym m.is in
       subst (Contains ss) same p.2

@@ -17,9 +17,10 @@ use Rattle.json_tree.proofs.Rising.{NamesRise, both_hold, each_next-tail, is_bef
 use Rattle.json_tree.proofs.TreeLemmas.{is_lawful-Object, lawful_members, members_of-Object, members_of-Some, text_of-Text}
 use Rattle.nquads.specs.Terms.{Statement}
 use Rattle.ld_rdf.specs.Flat.{at_context, at_id, property_statement}
-use Rattle.ld_rdf.specs.Reduced.{changed_in, changed, without_key, put_member}
-use Rattle.ld_rdf.specs.Parts.{text_at, property_of, is_entry, statements_in, is_left_out, text_beside, statements_beside}
-use Rattle.ld_rdf.proofs.Helpers.{and_left, and_right, same_text, equal_text}
+use Rattle.ld_rdf.specs.Reduced.{with_members_in, with_members, without_key, put_member}
+use Rattle.ld_rdf.specs.Internal.Parts.{member_text, property_of, is_id_or_context, is_left_out, text_beside, statements_beside}
+use Rattle.ld_rdf.proofs.WholeRequests.{statements_in}
+use Rattle.ld_rdf.proofs.OptionsAndLists.{and_left, and_right, same_text, equal_text}
 
 -- ---- names that rise, by the first against all others
 
@@ -67,6 +68,7 @@ rise-kept q (m ∷ ms) rise =
       | inr h ↦ subst NamesRise (sym (kept-no q m ms h)) later
     ]
 
+-- lawful members without one are lawful
 pub without_lawful : (key : List ℕ) (ms : List (Member Tree)) → AreLawful ms → AreLawful (without_key key ms)
 without_lawful key ms l = record {
   rising = rise-kept (λ m. not (bytes_eq m.key key)) ms l.rising;
@@ -119,12 +121,13 @@ rise-put m (n ∷ ns) rise =
     (λ e. rise-cons m ns (ap (λ (k : List ℕ). after k ns) (same_text m.key n.key e) ∙ after-first n ns rise) tail)
     (λ h e. rise-cons n (put_member m ns) (all-put (λ k. is_before n.key k.key) m ns (other_way m.key n.key h e) (after-first n ns rise)) (rise-put m ns tail))
 
+-- a lawful member put into lawful ones leaves them lawful
 pub put_lawful : (m : Member Tree) (ms : List (Member Tree)) → is_lawful m.value ≡ true → AreLawful ms → AreLawful (put_member m ms)
 put_lawful m ms here l = record { rising = rise-put m ms l.rising; values = all-put (λ k. is_lawful k.value) m ms here l.values }
 
 -- ---- trees with their members changed
 
-members_of_changed : (change : List (Member Tree) → List (Member Tree)) (t : Tree) (y : Tree-F Tree) → members_of t ≡ members_in y → members_of (changed_in change t y) ≡ option_map change (members_in y)
+members_of_changed : (change : List (Member Tree) → List (Member Tree)) (t : Tree) (y : Tree-F Tree) → members_of t ≡ members_in y → members_of (with_members_in change t y) ≡ option_map change (members_in y)
 members_of_changed change t (Tree-F.Null) is = is
 members_of_changed change t (Tree-F.Bool b) is = is
 members_of_changed change t (Tree-F.Whole z) is = is
@@ -133,13 +136,15 @@ members_of_changed change t (Tree-F.Text text) is = is
 members_of_changed change t (Tree-F.List items) is = is
 members_of_changed change t (Tree-F.Object members) is = members_of-Object (change members)
 
-pub members_of-changed : (change : List (Member Tree) → List (Member Tree)) (t : Tree) → members_of (changed change t) ≡ option_map change (members_of t)
+-- the members of a changed object are the changed members
+pub members_of-changed : (change : List (Member Tree) → List (Member Tree)) (t : Tree) → members_of (with_members change t) ≡ option_map change (members_of t)
 members_of-changed change t = members_of_changed change t (out-Tree t) refl
 
+-- lawful members make a lawful object
 pub lawful_object : (ms : List (Member Tree)) → AreLawful ms → is_lawful (v.Object ms) ≡ true
 lawful_object ms l = is_lawful-Object ms ∙ both_hold _ _ l.rising l.values
 
-lawful_changed : (change : List (Member Tree) → List (Member Tree)) (t : Tree) (y : Tree-F Tree) → is_lawful t ≡ true → ((ms : List (Member Tree)) → members_in y ≡ Some ms → AreLawful (change ms)) → is_lawful (changed_in change t y) ≡ true
+lawful_changed : (change : List (Member Tree) → List (Member Tree)) (t : Tree) (y : Tree-F Tree) → is_lawful t ≡ true → ((ms : List (Member Tree)) → members_in y ≡ Some ms → AreLawful (change ms)) → is_lawful (with_members_in change t y) ≡ true
 lawful_changed change t (Tree-F.Null) lawful keeps = lawful
 lawful_changed change t (Tree-F.Bool b) lawful keeps = lawful
 lawful_changed change t (Tree-F.Whole z) lawful keeps = lawful
@@ -148,7 +153,8 @@ lawful_changed change t (Tree-F.Text text) lawful keeps = lawful
 lawful_changed change t (Tree-F.List items) lawful keeps = lawful
 lawful_changed change t (Tree-F.Object members) lawful keeps = lawful_object (change members) (keeps members refl)
 
-pub is_lawful-changed : (change : List (Member Tree) → List (Member Tree)) (t : Tree) → is_lawful t ≡ true → ((ms : List (Member Tree)) → AreLawful ms → AreLawful (change ms)) → is_lawful (changed change t) ≡ true
+-- a change that keeps members lawful keeps the tree lawful
+pub is_lawful-changed : (change : List (Member Tree) → List (Member Tree)) (t : Tree) → is_lawful t ≡ true → ((ms : List (Member Tree)) → AreLawful ms → AreLawful (change ms)) → is_lawful (with_members change t) ≡ true
 is_lawful-changed change t lawful keeps =
     lawful_changed change t (out-Tree t) lawful (λ ms is. keeps ms (lawful_members t ms ms lawful (members_of-Some t ms is) refl))
 
@@ -194,10 +200,11 @@ value_stays besides key (m ∷ ms) apart = elim (cases_Bool (bytes_eq m.key besi
 beside-it : (besides key : List ℕ) (ms : List (Member Tree)) → bytes_eq key besides ≡ true → text_beside besides key ms ≡ None
 beside-it besides key ms h = rw h
 
-beside-other : (besides key : List ℕ) (ms : List (Member Tree)) → bytes_eq key besides ≡ false → text_beside besides key ms ≡ text_at key ms
+beside-other : (besides key : List ℕ) (ms : List (Member Tree)) → bytes_eq key besides ≡ false → text_beside besides key ms ≡ member_text key ms
 beside-other besides key ms h = rw h
 
-pub text_at-without : (besides key : List ℕ) (ms : List (Member Tree)) → text_at key (without_key besides ms) ≡ text_beside besides key ms
+-- the text of a member beside the one that is left out
+pub text_at-without : (besides key : List ℕ) (ms : List (Member Tree)) → member_text key (without_key besides ms) ≡ text_beside besides key ms
 text_at-without besides key ms = elim (cases_Bool (bytes_eq key besides)) [
   | inl h ↦ ap (option_and_then text_of) (ap (λ (k : List ℕ). value_of k (without_key besides ms)) (same_text key besides h) ∙ value_gone besides ms) ∙ sym (beside-it besides key ms h)
   | inr h ↦ ap (option_and_then text_of) (value_stays besides key ms (bytes_eq-other key besides h)) ∙ sym (beside-other besides key ms h)
@@ -222,22 +229,24 @@ value_under_put key m (n ∷ ns) other =
       | inr s ↦ value-other key n (put_member m ns) s ∙ value_under_put key m ns other ∙ sym (value-other key n ns s)
     ])
 
-pub text_at-put : (name : List ℕ) (ms : List (Member Tree)) → text_at at_context (put_member (new_member at_context (v.Text name)) ms) ≡ Some name
+-- the context that was put in is found
+pub text_at-put : (name : List ℕ) (ms : List (Member Tree)) → member_text at_context (put_member (new_member at_context (v.Text name)) ms) ≡ Some name
 text_at-put name ms = ap (option_and_then text_of) (value_put (new_member at_context (v.Text name)) ms) ∙ text_of-Text name
 
-pub id_under_put : (t : Tree) (ms : List (Member Tree)) → text_at at_id (put_member (new_member at_context t) ms) ≡ text_at at_id ms
+-- to put a context in leaves `@id`
+pub id_under_put : (t : Tree) (ms : List (Member Tree)) → member_text at_id (put_member (new_member at_context t) ms) ≡ member_text at_id ms
 id_under_put t ms = ap (option_and_then text_of) (value_under_put at_id (new_member at_context t) ms refl)
 
 -- ---- statements
 
 module _ (terms : List (Member Tree)) (id : List ℕ) where
-  entry_skipped : (m : Member Tree) (ms : List (Member Tree)) → is_entry m.key ≡ true → statements_in terms id (m ∷ ms) ≡ statements_in terms id ms
+  entry_skipped : (m : Member Tree) (ms : List (Member Tree)) → is_id_or_context m.key ≡ true → statements_in terms id (m ∷ ms) ≡ statements_in terms id ms
   entry_skipped m ms h = rw h
 
   one_before : (m : Member Tree) (o : Option (List Statement)) → Option (List Statement)
   one_before m o = option_and_then (λ p. option_map (λ more. property_statement id p.0 p.1 ∷ more) o) (property_of terms m)
 
-  property_first : (m : Member Tree) (ms : List (Member Tree)) → is_entry m.key ≡ false → statements_in terms id (m ∷ ms) ≡ one_before m (statements_in terms id ms)
+  property_first : (m : Member Tree) (ms : List (Member Tree)) → is_id_or_context m.key ≡ false → statements_in terms id (m ∷ ms) ≡ one_before m (statements_in terms id ms)
   unfolding one_before
   property_first m ms h = rw h
 
@@ -255,8 +264,8 @@ module _ (terms : List (Member Tree)) (id : List ℕ) where
         let out : is_left_out besides m.key ≡ true = rw h in
         ap (statements_in terms id) (without-it besides m ms h) ∙ statements_in-without besides ms ∙ sym (left_out besides m ms out)
     | inr h ↦
-        let as_entry : is_left_out besides m.key ≡ is_entry m.key = rw h in
-        ap (statements_in terms id) (without-other besides m ms h) ∙ elim (cases_Bool (is_entry m.key)) [
+        let as_entry : is_left_out besides m.key ≡ is_id_or_context m.key = rw h in
+        ap (statements_in terms id) (without-other besides m ms h) ∙ elim (cases_Bool (is_id_or_context m.key)) [
           | inl e ↦ entry_skipped m (without_key besides ms) e ∙ statements_in-without besides ms ∙ sym (left_out besides m ms (as_entry ∙ e))
           | inr e ↦ property_first m (without_key besides ms) e ∙ ap (one_before m) (statements_in-without besides ms) ∙ sym (taken_first besides m ms (as_entry ∙ e))
         ]
@@ -268,13 +277,13 @@ module _ (terms : List (Member Tree)) (id : List ℕ) where
   statements_in-put t (n ∷ ns) =
       by_place (λ ks. statements_in terms id ks ≡ statements_in terms id (n ∷ ns)) (new_member at_context t) n ns
       (λ h. refl)
-      (λ e. sym (entry_skipped n ns (ap is_entry (sym (same_text at_context n.key e)))))
-      (λ h e. elim (cases_Bool (is_entry n.key)) [
+      (λ e. sym (entry_skipped n ns (ap is_id_or_context (sym (same_text at_context n.key e)))))
+      (λ h e. elim (cases_Bool (is_id_or_context n.key)) [
         | inl s ↦ entry_skipped n (put_member (new_member at_context t) ns) s ∙ statements_in-put t ns ∙ sym (entry_skipped n ns s)
         | inr s ↦ property_first n (put_member (new_member at_context t) ns) s ∙ ap (one_before n) (statements_in-put t ns) ∙ sym (property_first n ns s)
       ])
 
-  entry_alone : (key : List ℕ) → is_left_out at_context key ≡ is_entry key
+  entry_alone : (key : List ℕ) → is_left_out at_context key ≡ is_id_or_context key
   entry_alone key = elim (cases_Bool (bytes_eq key at_context)) [
     | inl h ↦ elim (cases_Bool (bytes_eq key at_id)) [ inl e ↦ rw (h, e) | inr e ↦ rw (h, e) ]
     | inr h ↦ rw h
@@ -282,7 +291,7 @@ module _ (terms : List (Member Tree)) (id : List ℕ) where
 
   pub statements_beside_context : (ms : List (Member Tree)) → statements_beside at_context terms id ms ≡ statements_in terms id ms
   statements_beside_context [] = refl
-  statements_beside_context (m ∷ ms) = elim (cases_Bool (is_entry m.key)) [
+  statements_beside_context (m ∷ ms) = elim (cases_Bool (is_id_or_context m.key)) [
     | inl e ↦ left_out at_context m ms (entry_alone m.key ∙ e) ∙ statements_beside_context ms ∙ sym (entry_skipped m ms e)
     | inr e ↦ taken_first at_context m ms (entry_alone m.key ∙ e) ∙ ap (one_before m) (statements_beside_context ms) ∙ sym (property_first m ms e)
   ]

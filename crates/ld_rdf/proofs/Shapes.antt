@@ -11,14 +11,16 @@ use Rattle.json_tree.proofs.Rising.{bytes_eq-itself}
 use Rattle.json_tree.proofs.TreeLemmas.{child_of-members, names_at-members, members_of-Some, lawful_members}
 use Rattle.nquads.specs.Terms.{Statement}
 use Rattle.ld_rdf.specs.Flat.{at_context, context_place, term_place, document_place}
-use Rattle.ld_rdf.specs.Parts.{provided, only_in, only_of, two_in, unwrapped, supplied_in, described, flat_statements}
-use Rattle.ld_rdf.proofs.Helpers.{and_then-Some, option_map-Some, provided-Some, same_value, and_left, and_right, same_text, equal_text}
+use Rattle.ld_rdf.specs.Internal.Parts.{only_if, only_in, only_of, two_in, context_value, supplied_context}
+use Rattle.ld_rdf.proofs.WholeRequests.{document_statements, flat_statements}
+use Rattle.ld_rdf.proofs.OptionsAndLists.{and_then-Some, option_map-Some, provided-Some, same_value, and_left, and_right, same_text, equal_text}
 
 -- ---- one step down
 
 step_down : (t u : Tree) (key : List ℕ) (place : List Step) → child_of t (Key key) ≡ Some u → look (Key key ∷ place) t ≡ look place u
 step_down t u key place is = ap (option_and_then (look place)) is
 
+-- the names at a place below a member are those of its value
 pub names_down : (t u : Tree) (key : List ℕ) (place : List Step) → child_of t (Key key) ≡ Some u → names_at (Key key ∷ place) t ≡ names_at place u
 names_down t u key place is = ap (option_and_then (λ w. names_in (out-Tree w))) (step_down t u key place is)
 
@@ -30,6 +32,7 @@ look_nothing (Some t) = refl
 last_down : (t : Tree) (members : List (Member Tree)) (key : List ℕ) → members_of t ≡ Some members → look (Key key ∷ []) t ≡ value_of key members
 last_down t members key is = look_nothing (child_of t (Key key)) ∙ child_of-members t key ∙ ap (option_and_then (value_of key)) is
 
+-- below a key stands the value of that member
 pub child_is : (t : Tree) (members : List (Member Tree)) (key : List ℕ) → members_of t ≡ Some members → child_of t (Key key) ≡ value_of key members
 child_is t members key is = child_of-members t key ∙ ap (option_and_then (value_of key)) is
 
@@ -120,11 +123,11 @@ module _ (r : Tree) (s : Shape r) where
       members_are_lawful s.document.value _ document s.is_document
 
   -- the parts by which the program goes
-  pub parts : flat_statements r ≡ described (s.supplied.key, s.terms) s.members
+  pub parts : flat_statements r ≡ document_statements (s.supplied.key, s.terms) s.members
   parts =
       let two : two_in (s.contexts ∷ s.document ∷ []) ≡ Some (s.contexts.value, s.document.value) = rw (equal_text s.contexts.key (codes "contexts") s.contexts_key, equal_text s.document.key (codes "document") s.document_key) in
-      let inner : unwrapped s.supplied.value ≡ Some s.wrapped.value = rw (s.is_supplied, equal_text s.wrapped.key at_context s.wrapped_key) in
-      let context : supplied_in s.contexts.value ≡ Some (s.supplied.key, s.terms) = rw (s.is_contexts, inner, s.is_wrapped) in
+      let inner : context_value s.supplied.value ≡ Some s.wrapped.value = rw (s.is_supplied, equal_text s.wrapped.key at_context s.wrapped_key) in
+      let context : supplied_context s.contexts.value ≡ Some (s.supplied.key, s.terms) = rw (s.is_contexts, inner, s.is_wrapped) in
       rw (s.is_request, two, context, s.is_document)
 
 -- ---- where a request has the shape
@@ -167,15 +170,15 @@ two_members (c ∷ (d ∷ (e ∷ ms))) values h = absurd (cc)
 -- a request that has statements has the shape
 pub shape_from_statements : (r : Tree) (ss : List Statement) → flat_statements r ≡ Some ss → Shape r
 shape_from_statements r ss h =
-    let found = and_then-Some (λ (two : Tree × Tree). option_and_then (λ context. option_and_then (described context) (members_of two.1)) (supplied_in two.0)) (option_and_then two_in (members_of r)) ss h in
+    let found = and_then-Some (λ (two : Tree × Tree). option_and_then (λ context. option_and_then (document_statements context) (members_of two.1)) (supplied_context two.0)) (option_and_then two_in (members_of r)) ss h in
     let request = and_then-Some two_in (members_of r) found.0 found.1 in
     let two = two_members request.0 found.0 request.2 in
-    let context = and_then-Some (λ context. option_and_then (described context) (members_of found.0.1)) (supplied_in found.0.0) ss found.2 in
-    let document = and_then-Some (described context.0) (members_of found.0.1) ss context.2 in
-    let supplied = and_then-Some (λ m. option_map (λ terms. (m.key, terms)) (option_and_then members_of (unwrapped m.value))) (only_of found.0.0) context.0 context.1 in
-    let terms = option_map-Some (λ terms. (supplied.0.key, terms)) (option_and_then members_of (unwrapped supplied.0.value)) context.0 supplied.2 in
-    let inner = and_then-Some members_of (unwrapped supplied.0.value) terms.0 terms.1 in
-    let lone = and_then-Some (λ m. provided (bytes_eq m.key at_context) (Some m.value)) (only_of supplied.0.value) inner.0 inner.1 in
+    let context = and_then-Some (λ context. option_and_then (document_statements context) (members_of found.0.1)) (supplied_context found.0.0) ss found.2 in
+    let document = and_then-Some (document_statements context.0) (members_of found.0.1) ss context.2 in
+    let supplied = and_then-Some (λ m. option_map (λ terms. (m.key, terms)) (option_and_then members_of (context_value m.value))) (only_of found.0.0) context.0 context.1 in
+    let terms = option_map-Some (λ terms. (supplied.0.key, terms)) (option_and_then members_of (context_value supplied.0.value)) context.0 supplied.2 in
+    let inner = and_then-Some members_of (context_value supplied.0.value) terms.0 terms.1 in
+    let lone = and_then-Some (λ m. only_if (bytes_eq m.key at_context) (Some m.value)) (only_of supplied.0.value) inner.0 inner.1 in
     let named = provided-Some (bytes_eq lone.0.key at_context) (Some lone.0.value) inner.0 lone.2 in
     let value : lone.0.value ≡ inner.0 = same_value (Some lone.0.value) lone.0.value inner.0 refl named.1 in
     record {

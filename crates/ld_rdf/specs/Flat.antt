@@ -20,7 +20,8 @@ at_id = codes "@id"
 abbrev pub HasText : List Step → Tree → List ℕ → Type 0
 HasText place r text = look place r ≡ Some (v.Text text)
 
--- the place of the context that is supplied under a name, of a term of it, and of a member of the document
+-- the place of the context that is supplied under a name, of a term of it, and of a member of the
+-- document
 abbrev pub context_place : List ℕ → List Step
 context_place name = Key (codes "contexts") ∷ Key name ∷ Key at_context ∷ []
 
@@ -43,8 +44,8 @@ pub record HasValue (r : Tree) (key : List ℕ) : Type 0 where
   pub is : HasText (document_place key) r text
   pub carried : HasNoncharacter text → ⊥
 
--- A flat request: one context of plain terms, supplied under the name by which the document takes it, and
--- a document with a plain `@id` and, beside these two, terms of the context with texts.
+-- A flat request: one context of plain terms, supplied under the name by which the document takes
+-- it, and a document with a plain `@id` and, beside these two, terms of the context with texts.
 pub record IsFlat (r : Tree) : Type 0 where
   pub name : List ℕ
   pub terms : List (List ℕ)
@@ -61,15 +62,22 @@ pub record IsFlat (r : Tree) : Type 0 where
   pub identified : HasText (document_place at_id) r id
   pub plain_id : IsPlainIri id
   pub chosen : HasText (document_place at_context) r name
-  pub keys : (key : List ℕ) → Contains names key → key ≢ at_id → key ≢ at_context → Contains terms key
-  pub values : (key : List ℕ) → Contains names key → key ≢ at_id → key ≢ at_context → HasValue r key
+  pub keys : (key : List ℕ) → Contains names key → key ≢ at_id → key ≢ at_context
+      → Contains terms key
+  pub values : (key : List ℕ) → Contains names key → key ≢ at_id → key ≢ at_context
+      → HasValue r key
 
 -- from the document's `@id`, by the term's IRI, to the text as xsd:string, in the default graph
 abbrev pub property_statement : List ℕ → List ℕ → List ℕ → Statement
-property_statement id mapping text = record { subject = iri id; predicate = mapping; object = literal text xsd_string None; graph = None }
+property_statement id mapping text = record {
+  subject = iri id;
+  predicate = mapping;
+  object = literal text xsd_string None;
+  graph = None;
+}
 
--- A statement of the flat meaning: a member of the document under a term of the context that it takes.
--- JSON-LD 1.1 API, 8.1
+-- A statement of the flat meaning: a member of the document under a term of the context that it
+-- takes. JSON-LD 1.1 API, 8.1
 pub record Means (r : Tree) (s : Statement) : Type 0 where
   pub name : List ℕ
   pub id : List ℕ

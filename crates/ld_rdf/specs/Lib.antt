@@ -1,5 +1,4 @@
 pub mod Plain
 pub mod Flat
-pub mod Parts
-pub mod Answers
 pub mod Reduced
+pub mod Internal

@@ -1,3 +1,5 @@
+//! Why a request gives no statements.
+
 use base_types::Memory;
 use std::alloc::AllocFailed;
 
@@ -6,7 +8,7 @@ use std::alloc::AllocFailed;
 pub enum FlatFault {
     /// The request is not flat.
     NotBuilt,
-    /// Want of memory.
+    /// Out of memory.
     Memory,
 }
 

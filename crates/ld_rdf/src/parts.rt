@@ -1,9 +1,11 @@
+//! The parts of a flat request: its contexts, its document, and their members.
+
 ghost use Rattle.std.specs.Prelude.{◌≡◌, true, option_map, option_and_then, IfSome};
 ghost use Rattle.std.specs.Option.{option_copied};
 ghost use Rattle.std.specs.List.{list_all};
 ghost use Rattle.json_tree.specs.Places.{members_of};
 ghost use Rattle.json_tree.specs.Trees.{is_lawful, each_next, is_before, AreLawful};
-ghost use Rattle.ld_rdf.specs.Parts.{only_of, two_in, unwrapped, supplied_in, is_definition, text_at, text_beside};
+ghost use Rattle.ld_rdf.specs.Internal.Parts.{only_of, two_in, context_value, supplied_context, is_definition, member_text, text_beside};
 
 use crate::plain::{is_plain_iri, is_plain_term};
 use json_tree::{Member, Text, Tree, member};
@@ -40,9 +42,9 @@ fn only_member(tree: &Tree) -> Option<&Member>
 }
 
 /// The value of the lone member `@context`.
-fn unwrapped(tree: &Tree) -> Option<&Tree>
+fn context_value(tree: &Tree) -> Option<&Tree>
     requires { is_lawful tree.now ≡ true }
-    ensures value { option_copied result ≡ unwrapped tree.now }
+    ensures value { option_copied result ≡ context_value tree.now }
     ensures lawful { IfSome result (λ t. is_lawful t.now ≡ true) }
 {
     let lone = only_member(tree)?;
@@ -54,21 +56,21 @@ fn unwrapped(tree: &Tree) -> Option<&Tree>
 }
 
 /// The name of the one supplied context, and its terms.
-pub fn supplied(contexts: &Tree) -> Option<(&Text, &[Member])>
+pub fn supplied_context(contexts: &Tree) -> Option<(&Text, &[Member])>
     requires { is_lawful contexts.now ≡ true }
-    ensures context { option_map (λ p. (p.0.now, p.1.now)) result ≡ supplied_in contexts.now }
+    ensures context { option_map (λ p. (p.0.now, p.1.now)) result ≡ supplied_context contexts.now }
     ensures lawful { IfSome result (λ p. AreLawful p.1.now) }
 {
     let lone = only_member(contexts)?;
-    let context = unwrapped(&lone.value)?;
+    let context = context_value(&lone.value)?;
     let terms = context.as_object()?;
     Some((&lone.key, terms))
 }
 
 /// The text of the member of that name.
-pub fn text_at<'a>(key: &str, members: &'a [Member]) -> Option<&'a Text>
+pub fn member_text<'a>(key: &str, members: &'a [Member]) -> Option<&'a Text>
     requires { each_next (λ m n. is_before m.key n.key) members.now ≡ true }
-    ensures { option_copied result ≡ text_at key.now members.now }
+    ensures { option_copied result ≡ member_text key.now members.now }
 {
     member(members, key)?.as_text()
 }
@@ -81,7 +83,7 @@ pub fn text_beside<'a>(besides: &str, key: &str, members: &'a [Member]) -> Optio
     if key == besides {
         None
     } else {
-        text_at(key, members)
+        member_text(key, members)
     }
 }
 

@@ -1,3 +1,5 @@
+//! The plain forms of IRIs (RFC 3986, 4.3) and terms (JSON-LD 1.1, 4.1) that a flat document uses.
+
 ghost use Rattle.std.specs.Prelude.{◌≡◌};
 ghost use Rattle.std.specs.List.{list_all};
 ghost use Rattle.ld_rdf.specs.Plain.{is_iri_character, is_plain_iri, is_term_character, is_plain_term, is_noncharacter_first, has_noncharacter};

@@ -1,9 +1,11 @@
+//! The statements of a document without one member, and of proof options (JSON-LD 1.1 API, 8.1).
+
 ghost use Rattle.std.specs.Prelude.{◌≡◌, true, List, map, IfOk, IsErrOf};
 ghost use Rattle.json_tree.specs.Trees.{is_lawful};
 ghost use Rattle.nquads.specs.Terms.{Statement, IsStatement};
 ghost use Rattle.nquads.specs.Spelling.{text_quad};
 ghost use Rattle.ld_rdf.specs.Flat.{IsFlat, IsFlatMeaning, Means};
-ghost use Rattle.ld_rdf.specs.Reduced.{statements_request, taking, without};
+ghost use Rattle.ld_rdf.specs.Reduced.{statements_request, with_context, without};
 
 use crate::fault::FlatFault;
 use crate::statements::{chosen_statements, reduced_statements};
@@ -25,10 +27,15 @@ pub fn flat_document(
 ) -> Result<TextQuads, FlatFault>
     requires contexts { is_lawful contexts.now ≡ true }
     requires document { is_lawful document.now ≡ true }
-    ensures ok { IfOk result (λ quads. IsFlat (statements_request contexts.now (without besides.now document.now)) × ((q : List Statement)
-        × IsFlatMeaning (statements_request contexts.now (without besides.now document.now)) q × (quads ≡ map text_quad q))) }
-    ensures statements { IfOk result (λ _. (s : Statement) → Means (statements_request contexts.now (without besides.now document.now)) s → IsStatement s) }
-    ensures not_built { IsErrOf result FlatFault.NotBuilt → IsFlat (statements_request contexts.now (without besides.now document.now)) → ⊥ }
+    ensures ok { let request = statements_request contexts.now (without besides.now document.now) in
+        IfOk result (λ quads. IsFlat request
+        × ((q : List Statement) × IsFlatMeaning request q × (quads ≡ map text_quad q))) }
+    ensures statements { let request = statements_request contexts.now
+        (without besides.now document.now) in
+        IfOk result (λ _. (s : Statement) → Means request s → IsStatement s) }
+    ensures not_built { let request = statements_request contexts.now
+        (without besides.now document.now) in
+        IsErrOf result FlatFault.NotBuilt → IsFlat request → ⊥ }
 {
     match reduced_statements(alloc, contexts, document, besides) {
         Ok(quads) => Ok(TextQuads::from_vec(quads)),
@@ -51,10 +58,16 @@ pub fn flat_options(
 ) -> Result<TextQuads, FlatFault>
     requires contexts { is_lawful contexts.now ≡ true }
     requires options { is_lawful options.now ≡ true }
-    ensures ok { IfOk result (λ quads. IsFlat (statements_request contexts.now (taking context.now (without besides.now options.now))) × ((q : List Statement)
-        × IsFlatMeaning (statements_request contexts.now (taking context.now (without besides.now options.now))) q × (quads ≡ map text_quad q))) }
-    ensures statements { IfOk result (λ _. (s : Statement) → Means (statements_request contexts.now (taking context.now (without besides.now options.now))) s → IsStatement s) }
-    ensures not_built { IsErrOf result FlatFault.NotBuilt → IsFlat (statements_request contexts.now (taking context.now (without besides.now options.now))) → ⊥ }
+    ensures ok { let request = statements_request contexts.now
+        (with_context context.now (without besides.now options.now)) in
+        IfOk result (λ quads. IsFlat request
+        × ((q : List Statement) × IsFlatMeaning request q × (quads ≡ map text_quad q))) }
+    ensures statements { let request = statements_request contexts.now
+        (with_context context.now (without besides.now options.now)) in
+        IfOk result (λ _. (s : Statement) → Means request s → IsStatement s) }
+    ensures not_built { let request = statements_request contexts.now
+        (with_context context.now (without besides.now options.now)) in
+        IsErrOf result FlatFault.NotBuilt → IsFlat request → ⊥ }
 {
     match chosen_statements(alloc, contexts, context, options, besides) {
         Ok(quads) => Ok(TextQuads::from_vec(quads)),

@@ -1,13 +1,15 @@
+//! The statements of flat documents (JSON-LD 1.1 API, 8.1).
+
 ghost use Rattle.std.specs.Prelude.{◌≡◌, true, List, map, option_map, IfOk, IsErrOf};
 ghost use Rattle.json_tree.specs.Trees.{is_lawful, AreLawful};
 ghost use Rattle.nquads.specs.Terms.{Statement, IsStatement};
 ghost use Rattle.nquads.specs.Spelling.{text_quad};
 ghost use Rattle.ld_rdf.specs.Flat.{IsFlat, IsFlatMeaning, Means, property_statement};
-ghost use Rattle.ld_rdf.specs.Parts.{property_of, is_left_out, agrees, statements_beside, described_as, chosen_statements, reduced_statements, whole_statements, request_statements};
-ghost use Rattle.ld_rdf.specs.Answers.{Answers, AnswersItems};
+ghost use Rattle.ld_rdf.specs.Internal.Parts.{property_of, is_left_out, agrees, statements_beside, statements_under, chosen_statements, reduced_statements, whole_statements, request_statements};
+ghost use Rattle.ld_rdf.specs.Internal.Outcomes.{Builds, BuildsItems};
 
 use crate::fault::FlatFault;
-use crate::parts::{are_definitions, supplied, text_at, text_beside, two_members};
+use crate::parts::{are_definitions, member_text, supplied_context, text_beside, two_members};
 use crate::plain::{has_noncharacter, is_plain_iri};
 use base_types::Text;
 use json_tree::{Member, Tree};
@@ -25,11 +27,12 @@ fn property(
     member: &Member,
 ) -> Result<TextQuad, FlatFault>
     requires { AreLawful terms.now }
-    ensures { Answers
-        (option_map (λ p. text_quad (property_statement id.now p.0 p.1)) (property_of terms.now member.now))
+    ensures { Builds
+        (option_map (λ p. text_quad (property_statement id.now p.0 p.1))
+        (property_of terms.now member.now))
         result }
 {
-    let Some(mapping) = text_at(member.key.as_str(), terms) else {
+    let Some(mapping) = member_text(member.key.as_str(), terms) else {
         return Err(FlatFault::NotBuilt);
     };
     let Some(text) = member.value.as_text() else {
@@ -46,7 +49,8 @@ fn property(
     })
 }
 
-/// Whether a member of that name gives no statement: the one that is left out, `@id` and `@context`.
+/// Whether a member of that name gives no statement: the one that is left out, `@id` and
+/// `@context`.
 fn is_left_out(besides: &str, key: &str) -> bool
     ensures { result ≡ is_left_out besides.now key.now }
 {
@@ -54,7 +58,7 @@ fn is_left_out(besides: &str, key: &str) -> bool
 }
 
 /// The statements of the members that are not left out, in their order.
-#[tactic(auto, using(crate::proofs::Turns::turns))]
+#[tactic(auto, using(crate::proofs::LoopTurns::turns))]
 fn properties(
     alloc: Global,
     terms: &[Member],
@@ -63,8 +67,9 @@ fn properties(
     besides: &str,
 ) -> Result<Vec<TextQuad>, FlatFault>
     requires { AreLawful terms.now }
-    ensures { AnswersItems
-        (option_map (map text_quad) (statements_beside besides.now terms.now id.now members.now)) result }
+    ensures { BuildsItems
+        (option_map (map text_quad) (statements_beside besides.now terms.now id.now members.now))
+        result }
 {
     let mut quads = Vec::new(alloc);
     for member in members {
@@ -83,8 +88,9 @@ fn agrees(name: &Text, chosen: &Text, id: &Text, terms: &[Member]) -> bool
     is_plain_iri(id.as_str()) && name == chosen && are_definitions(terms)
 }
 
-/// The statements of members under the supplied context, where they take the context of the chosen name.
-fn described_as(
+/// The statements of members under the supplied context, where they take the context of the chosen
+/// name.
+fn statements_under(
     alloc: Global,
     name: &Text,
     terms: &[Member],
@@ -94,8 +100,8 @@ fn described_as(
 ) -> Result<Vec<TextQuad>, FlatFault>
     requires terms { AreLawful terms.now }
     requires members { AreLawful members.now }
-    ensures { AnswersItems (option_map (map text_quad)
-        (described_as besides.now chosen.now (name.now, terms.now) members.now)) result }
+    ensures { BuildsItems (option_map (map text_quad)
+        (statements_under besides.now chosen.now (name.now, terms.now) members.now)) result }
 {
     let Some(id) = text_beside(besides, "@id", members) else {
         return Err(FlatFault::NotBuilt);
@@ -106,7 +112,8 @@ fn described_as(
     properties(alloc, terms, id, members, besides)
 }
 
-/// The statements of a tree without its member `besides`, which takes the context of the chosen name.
+/// The statements of a tree without its member `besides`, which takes the context of the chosen
+/// name.
 pub fn chosen_statements(
     alloc: Global,
     contexts: &Tree,
@@ -116,19 +123,20 @@ pub fn chosen_statements(
 ) -> Result<Vec<TextQuad>, FlatFault>
     requires contexts { is_lawful contexts.now ≡ true }
     requires tree { is_lawful tree.now ≡ true }
-    ensures { AnswersItems (option_map (map text_quad)
+    ensures { BuildsItems (option_map (map text_quad)
         (chosen_statements besides.now contexts.now chosen.now tree.now)) result }
 {
-    let Some((name, terms)) = supplied(contexts) else {
+    let Some((name, terms)) = supplied_context(contexts) else {
         return Err(FlatFault::NotBuilt);
     };
     let Some(members) = tree.as_object() else {
         return Err(FlatFault::NotBuilt);
     };
-    described_as(alloc, name, terms, chosen, members, besides)
+    statements_under(alloc, name, terms, chosen, members, besides)
 }
 
-/// The statements of a document without its member `besides`, which takes the context that it names.
+/// The statements of a document without its member `besides`, which takes the context that it
+/// names.
 pub fn reduced_statements(
     alloc: Global,
     contexts: &Tree,
@@ -137,7 +145,7 @@ pub fn reduced_statements(
 ) -> Result<Vec<TextQuad>, FlatFault>
     requires contexts { is_lawful contexts.now ≡ true }
     requires document { is_lawful document.now ≡ true }
-    ensures { AnswersItems (option_map (map text_quad)
+    ensures { BuildsItems (option_map (map text_quad)
         (reduced_statements besides.now contexts.now document.now)) result }
 {
     let Some(members) = document.as_object() else {
@@ -157,13 +165,13 @@ fn whole_statements(
 ) -> Result<Vec<TextQuad>, FlatFault>
     requires contexts { is_lawful contexts.now ≡ true }
     requires document { is_lawful document.now ≡ true }
-    ensures { AnswersItems (option_map (map text_quad)
+    ensures { BuildsItems (option_map (map text_quad)
         (whole_statements contexts.now document.now)) result }
 {
     let Some(members) = document.as_object() else {
         return Err(FlatFault::NotBuilt);
     };
-    let Some(chosen) = text_at("@context", members) else {
+    let Some(chosen) = member_text("@context", members) else {
         return Err(FlatFault::NotBuilt);
     };
     // It gives no statement in any case, so no member is left out that has one.
@@ -173,7 +181,7 @@ fn whole_statements(
 /// The statements of a flat request.
 fn request_statements(alloc: Global, request: &Tree) -> Result<Vec<TextQuad>, FlatFault>
     requires { is_lawful request.now ≡ true }
-    ensures { AnswersItems (option_map (map text_quad) (request_statements request.now)) result }
+    ensures { BuildsItems (option_map (map text_quad) (request_statements request.now)) result }
 {
     let Some((contexts, document)) = two_members(request) else {
         return Err(FlatFault::NotBuilt);

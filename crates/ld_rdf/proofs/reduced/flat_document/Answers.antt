@@ -2,7 +2,7 @@ use Rattle.std.proofs.Common.{◌≡◌, sym, ap, ◌∙◌, subst, map, Err, Op
 use Rattle.nquads.specs.Terms.{Statement}
 use Rattle.nquads.specs.Spelling.{text_quad}
 use Rattle.ld_rdf.specs.Reduced.{statements_request, without}
-use Rattle.ld_rdf.specs.Answers.{AnswersItems}
+use Rattle.ld_rdf.specs.Internal.Outcomes.{BuildsItems}
 use Rattle.ld_rdf.specs.declared.fault.FlatFault.TheVariants.{NotBuilt}
 use Rattle.ld_rdf.proofs.Answering.{flat_ok, flat_means, flat_not_built}
 use Rattle.ld_rdf.proofs.MadeRequests.{request_is_lawful, without_is_lawful, document_made}
@@ -25,4 +25,4 @@ returns-in-Err-clause-not_built c is =
     let refused : c.in-Err.fault ≡ NotBuilt = cc in
     flat_not_built (statements_request c.args.contexts.now (without c.args.besides.now c.args.document.now))
     (request_is_lawful c.args.contexts.now _ c.requires.contexts (without_is_lawful c.args.besides.now c.args.document.now c.requires.document))
-    c.in-Err.fault (subst (λ (o : Option (List Statement)). AnswersItems (option_map (map text_quad) o) (Err c.in-Err.fault)) (sym (document_made c.args.besides.now c.args.contexts.now c.args.document.now)) c.in-Err.ensures) refused
+    c.in-Err.fault (subst (λ (o : Option (List Statement)). BuildsItems (option_map (map text_quad) o) (Err c.in-Err.fault)) (sym (document_made c.args.besides.now c.args.contexts.now c.args.document.now)) c.in-Err.ensures) refused

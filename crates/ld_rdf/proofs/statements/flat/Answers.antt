@@ -1,7 +1,7 @@
 use Rattle.std.proofs.Common.{◌≡◌, sym, ap, ◌∙◌, subst, map, Err, Option, List, option_map}
 use Rattle.nquads.specs.Terms.{Statement}
 use Rattle.nquads.specs.Spelling.{text_quad}
-use Rattle.ld_rdf.specs.Answers.{AnswersItems}
+use Rattle.ld_rdf.specs.Internal.Outcomes.{BuildsItems}
 use Rattle.ld_rdf.specs.declared.fault.FlatFault.TheVariants.{NotBuilt}
 use Rattle.ld_rdf.proofs.Answering.{flat_ok, flat_means, flat_not_built}
 use Rattle.ld_rdf.proofs.MadeRequests.{whole_made}
@@ -16,4 +16,4 @@ returns-in-Ok-clause-statements c = flat_means c.args.request.now c.requires _ (
 pub returns-in-Err-clause-not_built : goal.returns-in-Err-clause-not_built
 returns-in-Err-clause-not_built c is =
     let refused : c.in-Err.fault ≡ NotBuilt = cc in
-    flat_not_built c.args.request.now c.requires c.in-Err.fault (subst (λ (o : Option (List Statement)). AnswersItems (option_map (map text_quad) o) (Err c.in-Err.fault)) (sym (whole_made c.args.request.now)) c.in-Err.ensures) refused
+    flat_not_built c.args.request.now c.requires c.in-Err.fault (subst (λ (o : Option (List Statement)). BuildsItems (option_map (map text_quad) o) (Err c.in-Err.fault)) (sym (whole_made c.args.request.now)) c.in-Err.ensures) refused

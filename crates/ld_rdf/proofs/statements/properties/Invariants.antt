@@ -1,7 +1,7 @@
 use Rattle.std.proofs.Common.{◌≡◌, map, drop, option_map}
 use Rattle.nquads.specs.Spelling.{text_quad}
-use Rattle.ld_rdf.specs.Parts.{statements_beside}
-use Rattle.ld_rdf.proofs.Turns.{left}
+use Rattle.ld_rdf.specs.Internal.Parts.{statements_beside}
+use Rattle.ld_rdf.proofs.LoopTurns.{left}
 use Rattle.ld_rdf.proofs.statements.properties.Given as goal
 
 -- what was made, followed by what the members left give

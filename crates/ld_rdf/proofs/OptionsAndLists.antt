@@ -8,55 +8,67 @@ use Rattle.std.proofs.lemmas.List.{length-map}
 use Rattle.std.proofs.lemmas.Slice.Eq.{bytes_eq-Decides}
 use Rattle.base_types.specs.Sets.{AllDiffer}
 use Rattle.base_types.proofs.Lists.{Contains-here, Contains-there, Contains-cons_cases, Contains-nil, Contains-from_map}
-use Rattle.ld_rdf.specs.Parts.{provided}
+use Rattle.ld_rdf.specs.Internal.Parts.{only_if}
 
 -- ---- options
 
+-- what a chain of two steps gave, each step gave
 pub and_then-Some : {A B : Type 0} (f : A → Option B) (o : Option A) (y : B) → option_and_then f o ≡ Some y → (x : A) × (o ≡ Some x) × (f x ≡ Some y)
 and_then-Some f None y h = absurd (cc)
 and_then-Some f (Some x) y h = (x, refl, h)
 
+-- what the image of an option is, is the image of what it holds
 pub option_map-Some : {A B : Type 0} (f : A → B) (o : Option A) (y : B) → option_map f o ≡ Some y → (x : A) × (o ≡ Some x) × (f x ≡ y)
 option_map-Some f None y h = absurd (cc)
 option_map-Some f (Some x) y h = (x, refl, cc)
 
+-- nothing has nothing as its image
 pub option_map-None : {A B : Type 0} (f : A → B) (o : Option A) → option_map f o ≡ None → o ≡ None
 option_map-None f None h = refl
 option_map-None f (Some x) h = absurd (cc)
 
-pub provided-Some : {A : Type 0} (b : Bool) (o : Option A) (y : A) → provided b o ≡ Some y → (b ≡ true) × (o ≡ Some y)
+-- what is given under a test is given where the test holds
+pub provided-Some : {A : Type 0} (b : Bool) (o : Option A) (y : A) → only_if b o ≡ Some y → (b ≡ true) × (o ≡ Some y)
 provided-Some true o y h = (refl, h)
 provided-Some false o y h = absurd (cc)
 
+-- a test of an option that holds is one of what it holds
 pub map_or-true : {A : Type 0} (p : A → Bool) (o : Option A) → option_map_or p o false ≡ true → (x : A) × (o ≡ Some x) × (p x ≡ true)
 map_or-true p None h = absurd (cc)
 map_or-true p (Some x) h = (x, refl, h)
 
+-- an option holds one value
 pub same_value : {A : Type 0} (o : Option A) (x y : A) → o ≡ Some x → o ≡ Some y → x ≡ y
 same_value o x y p q = cc
 
 -- ---- tests
 
+-- both hold, so the first does
 pub and_left : (a b : Bool) → (a && b) ≡ true → a ≡ true
 and_left true b h = refl
 and_left false b h = absurd (cc)
 
+-- both hold, so the second does
 pub and_right : (a b : Bool) → (a && b) ≡ true → b ≡ true
 and_right true b h = h
 and_right false b h = absurd (cc)
 
+-- what does not hold is false
 pub not_true : (b : Bool) → not b ≡ true → b ≡ false
 not_true true h = absurd (cc)
 not_true false h = refl
 
+-- texts with the same bytes are one
 pub same_text : (a b : List ℕ) → bytes_eq a b ≡ true → a ≡ b
 same_text a b h = (bytes_eq-Decides a b).0 h
 
+-- one text has the same bytes
 pub equal_text : (a b : List ℕ) → a ≡ b → bytes_eq a b ≡ true
 equal_text a b e = (bytes_eq-Decides a b).1 e
 
 -- ---- lists
 
+-- a test that holds of each element holds of this one
 pub list_all-contains : {X : Type 0} (p : X → Bool) (xs : List X) (x : X) → list_all p xs ≡ true → Contains xs x → p x ≡ true
 list_all-contains p [] x h c = absurd (Contains-nil x c)
 list_all-contains p (y ∷ ys) x h c = elim (Contains-cons_cases y ys x c) [
@@ -64,6 +76,7 @@ list_all-contains p (y ∷ ys) x h c = elim (Contains-cons_cases y ys x c) [
   | inr d ↦ list_all-contains p ys x (and_right (p y) _ h) d
 ]
 
+-- a test holds of each element where it holds of whatever stands in the list
 pub list_all-from : {X : Type 0} (p : X → Bool) (xs : List X) → ((x : X) → Contains xs x → p x ≡ true) → list_all p xs ≡ true
 list_all-from p [] h = refl
 list_all-from p (x ∷ xs) h = rw (h x (Contains-here x xs)) (list_all-from p xs (λ y c. h y (Contains-there x xs y c)))
