@@ -3,6 +3,9 @@
 use Rattle.std.proofs.Common.{◌≡◌, ℕ, suc, ℤ, Bool, true, false, ◌||◌, List, [], ◌∷◌, map, Option, Some, None, if◌then◌else◌, refl, sym, ap, ◌∙◌}
 use Rattle.std.specs.List.{list_all, list_any}
 use Rattle.std.proofs.lemmas.List.Folds.{list_all-map}
+use Rattle.std.specs.Fmt.{signed_decimal}
+use Rattle.std.specs.Prelude.{codes}
+use Rattle.json.specs.Json as json
 use Rattle.serde_json.specs.Data.{Data, null, boolean, number, float, string, array, object}
 use Rattle.serde_json.specs.Find.{of_integer}
 use Rattle.serde_json.specs.View.{items_of}
@@ -15,7 +18,7 @@ use Rattle.json_tree.specs.declared.tree.Member.{Member}
 use Rattle.json_tree.specs.declared.place.Step.{Step}
 use Rattle.json_tree.specs.declared.place.Step.TheVariants.{Key, At}
 use Rattle.json_tree.specs.Trees.{is_64_bits, range_step, is_in_range, greatest, levels_step, levels_of, numbered, renumber_step, renumbered, element, new_member, version_step, holds_version}
-use Rattle.json_tree.specs.Prints.{members_data, data_step, data_of, datum}
+use Rattle.json_tree.specs.Prints.{members_data, data_step, data_of, datum, json_items, json_members, json_step, json_of, item_json, member_json}
 use Rattle.json_tree.specs.Places.{first_of, below, is_version_key, misplaced_step, misplaced, first_in_items, first_in_members}
 
 pub map-map : {X Y Z : Type 0} (f : Y → Z) (g : X → Y) (xs : List X) → map f (map g xs) ≡ map (λ x. f (g x)) xs
@@ -181,3 +184,26 @@ data_of-List items =
 
 pub data_of-Object : (members : List (Member Tree)) → data_of (v.Object members) ≡ object (members_data (map datum members))
 data_of-Object members = ap data_of (sym (v.rolls-Object members)) ∙ fold-roll-Tree Data data_step (Tree-F.Object members)
+
+-- ---- json_of
+
+pub json_of-Null : json_of v.Null ≡ json.null
+json_of-Null = ap json_of (sym v.rolls-Null) ∙ fold-roll-Tree json.Json json_step Tree-F.Null
+
+pub json_of-Bool : (b : Bool) → json_of (v.Bool b) ≡ json.boolean b
+json_of-Bool b = ap json_of (sym (v.rolls-Bool b)) ∙ fold-roll-Tree json.Json json_step (Tree-F.Bool b)
+
+pub json_of-Whole : (z : ℤ) → json_of (v.Whole z) ≡ json.number (signed_decimal z)
+json_of-Whole z = ap json_of (sym (v.rolls-Whole z)) ∙ fold-roll-Tree json.Json json_step (Tree-F.Whole z)
+
+pub json_of-Version : json_of v.Version ≡ json.number (codes "1.1")
+json_of-Version = ap json_of (sym v.rolls-Version) ∙ fold-roll-Tree json.Json json_step Tree-F.Version
+
+pub json_of-Text : (text : List ℕ) → json_of (v.Text text) ≡ json.string text
+json_of-Text text = ap json_of (sym (v.rolls-Text text)) ∙ fold-roll-Tree json.Json json_step (Tree-F.Text text)
+
+pub json_of-List : (items : List (Item Tree)) → json_of (v.List items) ≡ json.array (json_items (map item_json items))
+json_of-List items = ap json_of (sym (v.rolls-List items)) ∙ fold-roll-Tree json.Json json_step (Tree-F.List items)
+
+pub json_of-Object : (members : List (Member Tree)) → json_of (v.Object members) ≡ json.object (json_members (map member_json members))
+json_of-Object members = ap json_of (sym (v.rolls-Object members)) ∙ fold-roll-Tree json.Json json_step (Tree-F.Object members)

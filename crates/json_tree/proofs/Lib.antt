@@ -7,4 +7,5 @@ pub mod Searching
 pub mod Steps
 pub mod Escapes
 pub mod Writing
+pub mod Compact
 pub mod RoundTrip

@@ -2,13 +2,14 @@
 use Rattle.std.proofs.Common.{◌≡◌, ◌≤◌, ℕ, ℤ, suc, ◌+◌, pos, negsuc, true, false, Bool, is_none, List, [], ◌∷◌, map, Some, None, Option, Ok, Global, String, string_bytes, refl, sym, ap, ◌∙◌, arith}
 use Rattle.std.specs.List.{list_any}
 use Rattle.std.specs.Str.{IsUtf8}
-use Rattle.std.proofs.lemmas.Str.{IsUtf8-string_bytes}
 use Rattle.serde_json.specs.Data.{depth, items_depth, members_depth}
 use Rattle.serde_json.specs.Find.{as_integer, of_integer}
-use Rattle.serde_json.specs.View.{view, items_of}
+use Rattle.serde_json.specs.View.{items_of}
 use Rattle.serde_json.specs.Read as json
-use Rattle.serde_json.specs.Written.{has_float, items_have_float, members_have_float}
-use Rattle.serde_json.specs.declared.value.Value.{Value}
+use Rattle.json.specs.Token.{Token}
+use Rattle.json.specs.Lex.{tokens}
+use Rattle.json.specs.Print.{print}
+use Rattle.json.specs.Tree.{json_tokens}
 use Rattle.json_tree.specs.declared.tree.Tree.{Tree}
 use Rattle.json_tree.specs.declared.tree.Tree.TheVariants as v
 use Rattle.json_tree.specs.declared.tree.Item.{Item}
@@ -17,39 +18,13 @@ use Rattle.json_tree.specs.declared.place.Step.{Step}
 use Rattle.json_tree.specs.declared.place.Step.TheVariants.{Key, At}
 use Rattle.json_tree.specs.Trees.{tree_of, elements_of, entries_of, element, new_member, whole_or_version, greatest, levels_of, nesting_of, nesting_limit, holds_version, numbered, renumbered}
 use Rattle.json_tree.specs.Places.{below, or_else, misplaced, is_placed, is_version_key, first_in_items, first_in_members}
-use Rattle.json_tree.specs.Prints.{data_of, datum, members_data}
+use Rattle.json_tree.specs.WellFormed.{IsWellFormed}
+use Rattle.json_tree.specs.Prints.{data_of, datum, members_data, json_of}
 use Rattle.json_tree.specs.Reads.{Reads}
 use Rattle.json_tree.proofs.Induction.{Each, by_cases}
+use Rattle.json_tree.proofs.Compact.{read_back}
 use Rattle.json_tree.proofs.Depths.{levels_of-tree_of}
 use Rattle.json_tree.proofs.Equations.{holds_version-Null, holds_version-Bool, holds_version-Whole, holds_version-Version, holds_version-Text, holds_version-List, holds_version-Object, data_of-Null, data_of-Bool, data_of-Whole, data_of-Version, data_of-Text, data_of-List, data_of-Object, renumbered-Null, renumbered-Bool, renumbered-Whole, renumbered-Version, renumbered-Text, renumbered-List, renumbered-Object, levels_of-Null, levels_of-Bool, levels_of-Whole, levels_of-Version, levels_of-Text, levels_of-List, levels_of-Object, misplaced-List, misplaced-Object}
-
--- ---- floats are the version numbers
-
-abbrev HasFloatAsVersion : Tree → Type 0
-HasFloatAsVersion t = has_float (data_of t) ≡ holds_version t
-
-float_items : (is : List (Item Tree)) → Each (λ (i : Item Tree). HasFloatAsVersion i.value) is → items_have_float (items_of (map (λ i. data_of i.value) is)) ≡ list_any (λ i. holds_version i.value) is
-float_items [] e = refl
-float_items (i ∷ is) e = rw (e.0, float_items is e.1) refl
-
-float_members : (ms : List (Member Tree)) → Each (λ (m : Member Tree). HasFloatAsVersion m.value) ms → members_have_float (members_data (map datum ms)) ≡ list_any (λ m. holds_version m.value) ms
-float_members [] e = refl
-float_members (m ∷ ms) e = rw (e.0, float_members ms e.1) refl
-
-float_whole : (z : ℤ) → HasFloatAsVersion (v.Whole z)
-float_whole (pos n) = ap has_float (data_of-Whole (pos n)) ∙ sym (holds_version-Whole (pos n))
-float_whole (negsuc n) = ap has_float (data_of-Whole (negsuc n)) ∙ sym (holds_version-Whole (negsuc n))
-
-pub has_float-data_of : (t : Tree) → has_float (data_of t) ≡ holds_version t
-has_float-data_of = by_cases HasFloatAsVersion record {
-  null = ap has_float data_of-Null ∙ sym holds_version-Null;
-  boolean = λ b. ap has_float (data_of-Bool b) ∙ sym (holds_version-Bool b);
-  whole = float_whole;
-  version = ap has_float data_of-Version ∙ sym holds_version-Version;
-  text = λ s. ap has_float (data_of-Text s) ∙ sym (holds_version-Text s);
-  items = λ is e. ap has_float (data_of-List is) ∙ float_items is e ∙ sym (holds_version-List is);
-  members = λ ms e. ap has_float (data_of-Object ms) ∙ float_members ms e ∙ sym (holds_version-Object ms);
-}
 
 -- ---- the value of a tree is that of the tree renumbered
 
@@ -152,11 +127,12 @@ nothing_there None h = refl
 pub levels_of-renumbered : (t : Tree) → levels_of (renumbered t) ≡ levels_of t
 levels_of-renumbered t = ap levels_of (sym (tree_of-data_of t)) ∙ levels_of-tree_of (data_of t) ∙ depth-data_of t
 
-pub round_trip : (t : Tree) (value : Value) (text : String Global) (bytes : List ℕ) → bytes ≡ string_bytes text → view value ≡ data_of t → (depth (view value) ≤ json.max_depth → json.read (string_bytes text) ≡ Some (view value)) → nesting_of t ≤ nesting_limit → is_placed t ≡ true → Reads bytes (Ok (renumbered t))
-round_trip t value text bytes same made back shallow placed =
-    let fits : depth (view value) ≤ json.max_depth = rw (made, depth-data_of t) (omega arith) in
-    let spelled : IsUtf8 bytes = rw same (IsUtf8-string_bytes text) in (
-      record { value = data_of t; spelled = (spelled, ap json.read same ∙ back fits ∙ ap Some made); is = sym (tree_of-data_of t) },
+-- what is printed reads as the tree renumbered
+pub round_trip : (t : Tree) (bytes : List ℕ) (printed : List Token) → bytes ≡ print printed → tokens (print printed) ≡ printed → IsUtf8 (print printed) → printed ≡ json_tokens (json_of t) → IsWellFormed t → nesting_of t ≤ nesting_limit → is_placed t ≡ true → Reads bytes (Ok (renumbered t))
+round_trip t bytes printed same back utf8 made well shallow placed =
+    let fits : levels_of t ≤ json.max_depth = omega arith in
+    let spelled : json.read bytes ≡ Some (data_of t) = read_back t bytes (ap tokens same ∙ back ∙ made) well.lawful well.in_range fits in (
+      record { value = data_of t; spelled = (rw same utf8, spelled); is = sym (tree_of-data_of t) },
       rw (levels_of-renumbered t) shallow,
       misplaced-renumbered t false (nothing_there (misplaced t false) placed),
     )

@@ -16,7 +16,7 @@ use Rattle.json_tree.specs.declared.tree.Tree.TheVariants as v
 use Rattle.json_tree.specs.declared.tree.Item.{Item}
 use Rattle.json_tree.specs.declared.tree.Member.{Member}
 use Rattle.json_tree.specs.Trees.{elements_of, entries_of, each_next, is_before, is_lawful, is_in_range}
-use Rattle.json_tree.specs.Reads.{IsTreeOf, AreElementsOf, AreEntriesOf}
+use Rattle.json_tree.specs.Internal.Reading.{IsTreeOf, AreElementsOf, AreEntriesOf}
 use Rattle.json_tree.proofs.Rising.{both_hold, NamesRise}
 use Rattle.json_tree.proofs.TreeLemmas.{is_lawful-List, is_lawful-Object}
 use Rattle.json_tree.proofs.Equations.{is_in_range-List, is_in_range-Object}

@@ -35,6 +35,10 @@ text_in t = None
 abbrev pub text_of : Tree → Option (List ℕ)
 text_of t = text_in (out-Tree t)
 
+-- the text of the member of that name
+abbrev pub text_at : List ℕ → List (Member Tree) → Option (List ℕ)
+text_at key members = option_and_then text_of (value_of key members)
+
 -- an object's members in order, or nothing where the tree is no object
 abbrev pub members_in : Tree-F Tree → Option (List (Member Tree))
 members_in (Tree-F.Object members) = Some members

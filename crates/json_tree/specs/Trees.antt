@@ -1,10 +1,9 @@
 -- Trees of JSON values, and the tree that a JSON value is. RFC 8259, section 3.
 use Rattle.std.specs.Prelude.{◌≡◌, ℕ, suc, ◌+◌, ◌^◌, max, ℤ, pos, negsuc, List, [], ◌∷◌, map, Bool, true, false, ◌&&◌, nat_lt, Option, Some, None}
-use Rattle.std.specs.Ordering.{nat_cmp, is_lt}
-use Rattle.std.specs.Cmp.Lexicographic.{slice_cmp}
 use Rattle.std.specs.List.{list_all, list_any}
 use Rattle.serde_json.specs.Find.{as_integer}
 use Rattle.serde_json.specs.Data.{Num, Data, null, boolean, number, string, array, object, Items, no_items, item, Members, no_members, member}
+pub use Rattle.base_types.specs.Order.{is_before, each_next}
 use Rattle.json_tree.specs.declared.tree.Tree.{Tree, fold-Tree}
 use Rattle.json_tree.specs.declared.tree.Tree.TheOpen.{Tree-F}
 use Rattle.json_tree.specs.declared.tree.Tree.TheVariants as v
@@ -46,16 +45,6 @@ abbrev mutual
   pub entries_of : Members → List (Member Tree)
   entries_of no_members = []
   entries_of (member k d ms) = new_member k (tree_of d) ∷ entries_of ms
-
--- whether each element of a list passes the test together with the next
-abbrev pub each_next : {X : Type 0} → (X → X → Bool) → List X → Bool
-each_next test [] = true
-each_next test (x ∷ []) = true
-each_next test (x ∷ y ∷ ys) = test x y && each_next test (y ∷ ys)
-
--- whether a name comes before another in byte order
-abbrev pub is_before : List ℕ → List ℕ → Bool
-is_before a b = is_lt (slice_cmp nat_cmp a b)
 
 -- one level, with each value inside already seen as whether it is lawful
 abbrev pub lawful_step : Tree-F Bool → Bool

@@ -2,7 +2,7 @@
 
 ghost use Rattle.std.specs.Prelude.{◌≡◌, option_map, IfOk};
 ghost use Rattle.json_tree.specs.Places.{misplaced, first_misplaced, first_in_items, first_in_members};
-ghost use Rattle.json_tree.specs.Reads.{steps_found};
+ghost use Rattle.json_tree.specs.Internal.Reading.{steps_found};
 
 use crate::place::{Place, Step};
 use crate::tree::{Item, Member, Tree};

@@ -1,103 +1,104 @@
-ghost use Rattle.std.specs.Prelude.{◌≡◌, ◌≤◌, ◌+◌, true, false, map, Ok, IfOk};
+//! Trees as compact JSON text. RFC 8259.
+
+ghost use Rattle.std.specs.Prelude.{◌≡◌, ◌≤◌, [], ◌∷◌, true, false, map, Ok, IfOk, OnOk};
+ghost use Rattle.std.specs.Fmt.{signed_decimal};
 ghost use Rattle.std.specs.List.{list_all};
-ghost use Rattle.serde_json.specs.Find.{of_integer};
-ghost use Rattle.serde_json.specs.View.{view, number_view, items_view, items_of, members_view};
+ghost use Rattle.json.specs.Token.{begin_array, begin_object, number};
+ghost use Rattle.json.specs.Tree.{json_tokens, items_tokens, members_tokens};
 ghost use Rattle.serde_json.specs.Written.{compact_text};
-ghost use Rattle.json_tree.specs.Trees.{is_lawful, is_in_range, is_64_bits, holds_version, nesting_of, nesting_limit, renumbered, each_next, is_before};
+ghost use Rattle.json_tree.specs.Trees.{is_in_range, is_64_bits, holds_version, nesting_of, nesting_limit, renumbered};
 ghost use Rattle.json_tree.specs.Places.{is_placed};
-ghost use Rattle.json_tree.specs.Prints.{data_of, datum, members_data};
+ghost use Rattle.json_tree.specs.WellFormed.{IsWellFormed};
+ghost use Rattle.json_tree.specs.Prints.{data_of, json_of, json_items, json_members, item_json, member_json, compact_of};
 ghost use Rattle.json_tree.specs.Reads.{Reads};
+ghost use Rattle.json_tree.specs.Internal.Writes.{HasWritten};
 
 use crate::tree::{Item, Member, Tree};
 use base_types::Memory;
-use serde_json::{Map, Number, Value};
+use json::Writer;
 use std::alloc::Global;
 
 /// The one number of a tree that need not be whole: the version number of a context.
 pub const VERSION: f64 = 1.1;
 
-/// The tree as compact JSON (RFC 8259): no space, members in the byte order of their names, texts as
-/// `serde_json` writes them, whole numbers in decimal, `Version` as `1.1`. The indexes of elements are
-/// left out.
+/// The tree as compact JSON (RFC 8259): no space, members in the byte order of their names, texts with
+/// the shortest escapes, whole numbers in decimal, `Version` as `1.1`. The indexes of elements are left
+/// out.
 ///
-/// What `read` gives is lawful and in range. The recursion goes as deep as the tree nests.
+/// What `read` gives is well formed. The recursion goes as deep as the tree nests.
 ///
 /// # Errors
 ///
 /// `Memory`: there is no memory for the text.
 pub fn print(alloc: Global, tree: &Tree) -> Result<Vec<u8>, Memory>
-    requires lawful { is_lawful tree.now ≡ true }
-    requires in_range { is_in_range tree.now ≡ true }
-    // The text of a tree without a version number.
+    requires { IsWellFormed tree.now }
+    ensures compact { IfOk result (λ text. text.items ≡ compact_of tree.now) }
+    // Where it holds no version number, this is what `serde_json` writes.
     ensures text { IfOk result (λ text. holds_version tree.now ≡ false
         → text.items ≡ compact_text (data_of tree.now)) }
     // The text reads as the tree with the elements of each list numbered from 0.
-    ensures reads_back { IfOk result (λ text. nesting_of tree.now ≤ nesting_limit → is_placed tree.now ≡ true
-        → Reads text.items (Ok (renumbered tree.now))) }
+    ensures reads_back { IfOk result (λ text. nesting_of tree.now ≤ nesting_limit
+        → is_placed tree.now ≡ true → Reads text.items (Ok (renumbered tree.now))) }
 {
-    let value = value_of(alloc, tree)?;
-    let text = value.to_string(alloc)?;
-    Ok(text.into_bytes())
+    let mut out = Writer::new(Vec::new(alloc));
+    write_tree(&mut out, tree)?;
+    Ok(out.into_inner())
 }
 
-/// A whole number of 64 bits, with a sign or without, as the reader's number.
-fn number_of(n: i128) -> Number
+/// A whole number of 64 bits, with a sign or without.
+fn write_number(out: &mut Writer, n: i128) -> Result<(), Memory>
     requires { is_64_bits n ≡ true }
-    ensures { number_view result ≡ of_integer n }
+    ensures { OnOk result (HasWritten out.old out.new (number (signed_decimal n) ∷ [])) }
 {
     if n < 0 {
-        Number::from(n as i64)
+        Ok(out.i64(n as i64)?)
     } else {
-        Number::from(n as u64)
+        Ok(out.u64(n as u64)?)
     }
 }
 
-#[cycle(value_of)]
+#[cycle(write)]
 #[tactic(auto, using(crate::proofs::Writing::print_steps))]
-fn value_of(alloc: Global, tree: &Tree) -> Result<Value, Memory>
-    requires lawful { is_lawful tree.now ≡ true }
-    requires in_range { is_in_range tree.now ≡ true }
-    ensures { IfOk result (λ value. view value ≡ data_of tree.now) }
+fn write_tree(out: &mut Writer, tree: &Tree) -> Result<(), Memory>
+    requires { is_in_range tree.now ≡ true }
+    ensures { OnOk result (HasWritten out.old out.new (json_tokens (json_of tree.now))) }
 {
     match tree {
-        Tree::Null => Ok(Value::Null),
-        Tree::Bool(b) => Ok(Value::Bool(*b)),
-        Tree::Whole(n) => Ok(Value::Number(number_of(*n))),
-        Tree::Version => Ok(Value::from(VERSION)),
-        Tree::Text(text) => Ok(Value::String(String::from_str(alloc, text.as_str())?)),
-        Tree::List(items) => Ok(Value::Array(array_of(alloc, items.as_slice())?)),
-        Tree::Object(members) => Ok(Value::Object(object_of(alloc, members.as_slice())?)),
+        Tree::Null => Ok(out.null()?),
+        Tree::Bool(b) => Ok(out.boolean(*b)?),
+        Tree::Whole(n) => write_number(out, *n),
+        Tree::Version => Ok(out.number("1.1")?),
+        Tree::Text(text) => Ok(out.string(text.as_str())?),
+        Tree::List(items) => write_items(out, items.as_slice()),
+        Tree::Object(members) => write_members(out, members.as_slice()),
     }
 }
 
-#[cycle(value_of)]
+#[cycle(write)]
 #[tactic(auto, using(crate::proofs::Writing::print_steps))]
-fn array_of(alloc: Global, items: &[Item]) -> Result<Vec<Value>, Memory>
-    requires lawful { list_all (λ i. is_lawful i.value) items.now ≡ true }
-    requires in_range { list_all (λ i. is_in_range i.value) items.now ≡ true }
-    ensures { IfOk result (λ array. items_view array.items ≡ items_of (map (λ i. data_of i.value) items.now)) }
+fn write_items(out: &mut Writer, items: &[Item]) -> Result<(), Memory>
+    requires { list_all (λ i. is_in_range i.value) items.now ≡ true }
+    ensures { OnOk result (HasWritten out.old out.new
+        (begin_array ∷ items_tokens (json_items (map item_json items.now)))) }
 {
-    let mut array = Vec::new(alloc);
+    out.begin_array()?;
     for item in items {
-        array.push(value_of(alloc, &item.value)?)?;
+        write_tree(out, &item.value)?;
     }
-    Ok(array)
+    Ok(out.end_array()?)
 }
 
-/// The members go in from the last to the first: each name comes before those that are in already.
-#[cycle(value_of)]
+#[cycle(write)]
 #[tactic(auto, using(crate::proofs::Writing::print_steps))]
-fn object_of(alloc: Global, members: &[Member]) -> Result<Map<String, Value>, Memory>
-    requires rising { each_next (λ m n. is_before m.key n.key) members.now ≡ true }
-    requires lawful { list_all (λ m. is_lawful m.value) members.now ≡ true }
-    requires in_range { list_all (λ m. is_in_range m.value) members.now ≡ true }
-    ensures { IfOk result (λ object. members_view object.entries ≡ members_data (map datum members.now)) }
+fn write_members(out: &mut Writer, members: &[Member]) -> Result<(), Memory>
+    requires { list_all (λ m. is_in_range m.value) members.now ≡ true }
+    ensures { OnOk result (HasWritten out.old out.new
+        (begin_object ∷ members_tokens (json_members (map member_json members.now)))) }
 {
-    let mut object = Map::new(alloc);
-    for at in (0..members.len()).rev() {
-        let name = String::from_str(alloc, members[at].key.as_str())?;
-        let value = value_of(alloc, &members[at].value)?;
-        drop(object.insert(name, value)?);
+    out.begin_object()?;
+    for member in members {
+        out.key(member.key.as_str())?;
+        write_tree(out, &member.value)?;
     }
-    Ok(object)
+    Ok(out.end_object()?)
 }

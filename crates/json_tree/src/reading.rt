@@ -1,9 +1,13 @@
+//! Reading JSON text as a tree. RFC 8259.
+
 ghost use Rattle.std.specs.Prelude.{◌≡◌, true, IfOk};
 ghost use Rattle.serde_json.specs.Data.{number as as_number};
 ghost use Rattle.serde_json.specs.View.{view, number_view, items_view, members_view};
 ghost use Rattle.json_tree.specs.Trees.{tree_of, is_lawful, is_in_range};
 ghost use Rattle.json_tree.specs.Places.{is_placed};
-ghost use Rattle.json_tree.specs.Reads.{Reads, ReadsTree, IsTreeOf, AreElementsOf, AreEntriesOf};
+ghost use Rattle.json_tree.specs.WellFormed.{IsWellFormed};
+ghost use Rattle.json_tree.specs.Reads.{Reads};
+ghost use Rattle.json_tree.specs.Internal.Reading.{ReadsTree, IsTreeOf, AreElementsOf, AreEntriesOf};
 
 use crate::misplaced::first_misplaced;
 use crate::nesting::is_within;
@@ -33,9 +37,10 @@ pub fn read(alloc: Global, bytes: &[u8]) -> Result<Tree, TreeFault>
     ensures lawful { IfOk result (λ t. is_lawful t ≡ true) }
     ensures in_range { IfOk result (λ t. is_in_range t ≡ true) }
     ensures placed { IfOk result (λ t. is_placed t ≡ true) }
+    ensures well_formed { IfOk result (λ t. IsWellFormed t) }
 {
     match Value::from_slice(alloc, bytes) {
-        Ok(value) => read_value(alloc, &value),
+        Ok(value) => read_value(alloc, value),
         Err(error) => {
             if error.is_memory() {
                 Err(TreeFault::Memory)
@@ -48,12 +53,12 @@ pub fn read(alloc: Global, bytes: &[u8]) -> Result<Tree, TreeFault>
 
 /// The tree of a value, where it is one that is read. The nesting comes first, so no later step goes
 /// deeper.
-fn read_value(alloc: Global, value: &Value) -> Result<Tree, TreeFault>
-    ensures outcome { ReadsTree (tree_of (view value.now)) result }
+fn read_value(alloc: Global, value: Value) -> Result<Tree, TreeFault>
+    ensures outcome { ReadsTree (tree_of (view value)) result }
     ensures lawful { IfOk result (λ t. is_lawful t ≡ true) }
     ensures in_range { IfOk result (λ t. is_in_range t ≡ true) }
 {
-    if !is_within(value, NESTING_LIMIT) {
+    if !is_within(&value, NESTING_LIMIT) {
         return Err(TreeFault::TooDeep);
     }
     let tree = tree_from(alloc, value)?;
@@ -77,22 +82,22 @@ fn number_from(number: &Number) -> Tree
 }
 
 #[cycle(tree_from)]
-fn tree_from(alloc: Global, value: &Value) -> Result<Tree, Memory>
-    ensures { IfOk result (IsTreeOf (view value.now)) }
+fn tree_from(alloc: Global, value: Value) -> Result<Tree, Memory>
+    ensures { IfOk result (IsTreeOf (view value)) }
 {
     match value {
         Value::Null => Ok(Tree::Null),
-        Value::Bool(b) => Ok(Tree::Bool(*b)),
-        Value::Number(number) => Ok(number_from(number)),
-        Value::String(text) => Ok(Tree::Text(Text::from_str(alloc, text.as_str())?)),
-        Value::Array(items) => Ok(Tree::List(elements_from(alloc, items.as_slice())?)),
+        Value::Bool(b) => Ok(Tree::Bool(b)),
+        Value::Number(number) => Ok(number_from(&number)),
+        Value::String(text) => Ok(Tree::Text(Text::from_string(text))),
+        Value::Array(items) => Ok(Tree::List(elements_from(alloc, items)?)),
         Value::Object(members) => Ok(Tree::Object(members_from(alloc, members)?)),
     }
 }
 
 #[cycle(tree_from)]
-fn elements_from(alloc: Global, values: &[Value]) -> Result<Items<Item<Tree>>, Memory>
-    ensures { IfOk result (AreElementsOf (items_view values.now)) }
+fn elements_from(alloc: Global, values: Vec<Value>) -> Result<Items<Item<Tree>>, Memory>
+    ensures { IfOk result (AreElementsOf (items_view values.items)) }
 {
     let mut elements = Items::new(alloc);
     let mut at = 0;
@@ -105,12 +110,12 @@ fn elements_from(alloc: Global, values: &[Value]) -> Result<Items<Item<Tree>>, M
 }
 
 #[cycle(tree_from)]
-fn members_from(alloc: Global, map: &Map<String, Value>) -> Result<Items<Member<Tree>>, Memory>
-    ensures { IfOk result (AreEntriesOf (members_view map.now.entries)) }
+fn members_from(alloc: Global, map: Map<String, Value>) -> Result<Items<Member<Tree>>, Memory>
+    ensures { IfOk result (AreEntriesOf (members_view map.entries)) }
 {
     let mut members = Items::new(alloc);
-    for (name, member) in map.iter() {
-        let key = Text::from_str(alloc, name.as_str())?;
+    for (name, member) in map {
+        let key = Text::from_string(name);
         let value = tree_from(alloc, member)?;
         members.push(Member { key, value })?;
     }
