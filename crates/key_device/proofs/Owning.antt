@@ -10,12 +10,9 @@ use Rattle.std.specs.BTreeMap.{is_at}
 use Rattle.std.specs.Ordering.{is_eq}
 use Rattle.std.proofs.Common.{Ordering}
 use Rattle.std.proofs.lemmas.Slice.Eq.{bytes_eq-Decides}
+use Rattle.base_types.proofs.Orders.{bytes_eq-false, bytes_eq-same, bytes_eq-true}
 use Rattle.key_device.specs.declared.keys.KeyName.{KeyName}
 use Rattle.key_device.specs.Ledgers.{has_key, numbered_key}
-
--- texts that pass the test are the same
-pub same_bytes : (xs ys : List ℕ) → bytes_eq xs ys ≡ true → xs ≡ ys
-same_bytes xs ys p = (bytes_eq-Decides xs ys).0 p
 
 -- the keys without the first that is this one
 abbrev without : KeyName → List KeyName → List KeyName
@@ -34,7 +31,7 @@ one_or_other b c d p q r = grind arith
 stays_at : (key other k : KeyName) (ks : List KeyName) (b : Bool) → b ≡ bytes_eq key.bytes k.bytes → has_key (k ∷ ks) other ≡ true → bytes_eq other.bytes key.bytes ≡ false
     → (has_key ks other ≡ true → has_key (without key ks) other ≡ true) → has_key (cond b ks (k ∷ without key ks)) other ≡ true
 stays_at key other k ks true is p q r =
-    let same : key.bytes ≡ k.bytes = same_bytes key.bytes k.bytes (sym is) in
+    let same : key.bytes ≡ k.bytes = bytes_eq-true key.bytes k.bytes (sym is) in
     let not_k : bytes_eq other.bytes k.bytes ≡ false = rw (← same) q in
     one_or_other _ _ _ p not_k (λ h. h)
 stays_at key other k ks false is p q r = grind (arith, common_steps)
@@ -43,17 +40,9 @@ others_stay : (key other : KeyName) (ks : List KeyName) → has_key ks other ≡
 others_stay key other [] p q = p
 others_stay key other (k ∷ ks) p q = stays_at key other k ks (bytes_eq key.bytes k.bytes) refl p q (λ r. others_stay key other ks r q)
 
-pub not_true : (b : Bool) → (b ≡ true → ⊥) → b ≡ false
-not_true true f = absurd (f refl)
-not_true false f = refl
-
--- texts that differ fail the test
-apart : (xs ys : List ℕ) → xs ≢ ys → bytes_eq xs ys ≡ false
-apart xs ys ne = not_true (bytes_eq xs ys) (λ p. ne (same_bytes xs ys p))
-
 numbers_differ : (m n : ℕ) → m < 2 ^ 64 → n < 2 ^ 64 → m ≢ n → bytes_eq (numbered_key m).bytes (numbered_key n).bytes ≡ false
 unfolding numbered_key
-numbers_differ m n small low ne = apart (numbered_key m).bytes (numbered_key n).bytes (λ e. ne (sym (from_be_bytes-to_be_bytes_8 m small) ∙ ap (λ (b : List ℕ). from_be_bytes w64 (drop 27 b)) e ∙ from_be_bytes-to_be_bytes_8 n low))
+numbers_differ m n small low ne = bytes_eq-false (numbered_key m).bytes (numbered_key n).bytes (λ e. ne (sym (from_be_bytes-to_be_bytes_8 m small) ∙ ap (λ (b : List ℕ). from_be_bytes w64 (drop 27 b)) e ∙ from_be_bytes-to_be_bytes_8 n low))
 
 -- keys that have each number from 1 to n are at least n
 pub numbers_fit : (n : ℕ) (ks : List KeyName) → n < 2 ^ 64 → ((m : ℕ) → 1 ≤ m → m ≤ n → has_key ks (numbered_key m) ≡ true) → n ≤ length ks
@@ -70,7 +59,7 @@ has_key-by cmp same key (k ∷ ks) = rw (same key k, has_key-by cmp same key ks)
 
 -- the test does not ask which text comes first
 flipped : (xs ys : List ℕ) → bytes_eq xs ys ≡ bytes_eq ys xs
-flipped xs ys = same_from_decides {P = xs ≡ ys} _ _ (bytes_eq-Decides xs ys) ((λ p. sym (same_bytes ys xs p)), (λ e. (bytes_eq-Decides ys xs).1 (sym e)))
+flipped xs ys = same_from_decides {P = xs ≡ ys} _ _ (bytes_eq-Decides xs ys) ((λ p. sym (bytes_eq-true ys xs p)), (λ e. bytes_eq-same ys xs (sym e)))
 
 cond_or : (b c : Bool) → cond b true c ≡ (b || c)
 cond_or true c = refl

@@ -10,7 +10,7 @@ use Rattle.key_device.specs.declared.keys.Signature.{Signature}
 use Rattle.key_device.specs.declared.device.SignedEntry.{SignedEntry}
 use Rattle.key_device.specs.Devices.{log_entry}
 use Rattle.key_device.specs.Exact.{is_entry-itself, found_entry}
-use Rattle.key_device.proofs.Owning.{not_true}
+use Rattle.std.proofs.lemmas.Bool.{false_from_ne_true}
 use Rattle.std.proofs.lemmas.Nat.{from_be_bytes-to_be_bytes_8}
 use Rattle.key_device.specs.Ledgers.{has_key, has_entry, has_keys_of, is_entry, IsNumbered, numbered_signature}
 use Rattle.key_device.specs.Internal.Numbers.{signature_number}
@@ -56,14 +56,14 @@ outside (inr past) w = omega (arith, w.1, w.2)
 pub not_recorded : (entries : List SignedEntry) (key : KeyName) (bytes : List ℕ) (signature : Signature) → IsNumbered entries → length entries < 2 ^ 64
     → (signature_number signature ≡ 0) ⊎ (length entries < signature_number signature) → has_entry entries key bytes signature ≡ false
 not_recorded entries key bytes signature order small out =
-    not_true (has_entry entries key bytes signature) (λ p. outside out (where_recorded entries key bytes signature order small p))
+    false_from_ne_true (has_entry entries key bytes signature) (λ p. outside out (where_recorded entries key bytes signature order small p))
 
 -- the entry with the number of the signature decides
 pub recorded_at : (entries : List SignedEntry) (key : KeyName) (bytes : List ℕ) (signature : Signature) (i : ℕ) (e : SignedEntry) (b : Bool) → IsNumbered entries → length entries < 2 ^ 64
     → i < length entries → signature_number signature ≡ i + 1 → e ≡ get_or entries i e → b ≡ is_entry key bytes signature e → b ≡ has_entry entries key bytes signature
 recorded_at entries key bytes signature i e true order small lt at here is = sym (list_any_at (is_entry key bytes signature) entries i e lt (ap (is_entry key bytes signature) (sym here) ∙ sym is))
 recorded_at entries key bytes signature i e false order small lt at here is =
-    sym (not_true (has_entry entries key bytes signature) (λ p.
+    sym (false_from_ne_true (has_entry entries key bytes signature) (λ p.
     let w = where_recorded entries key bytes signature order small p in
     let same : w.0 ≡ i = omega (arith, w.2) in
     let joined : e ≡ log_entry key bytes signature =

@@ -8,7 +8,7 @@ use Rattle.std.proofs.lemmas.List.Elements.{All-get_or}
 use Rattle.std.proofs.lemmas.List.Folds.{list_any_at}
 use Rattle.std.proofs.lemmas.List.Sums.{AllPass-from_list_all}
 use Rattle.std.proofs.lemmas.Map.Views.{Contains-from_any}
-use Rattle.std.proofs.lemmas.Slice.Eq.{bytes_eq-Decides}
+use Rattle.base_types.proofs.Orders.{bytes_eq-same, bytes_eq-true}
 use Rattle.key_device.specs.declared.keys.KeyName.{KeyName}
 use Rattle.key_device.specs.declared.keys.Signature.{Signature}
 use Rattle.key_device.specs.declared.device.SignedEntry.{SignedEntry}
@@ -30,13 +30,13 @@ same_entry : (x y : SignedEntry) → is_entry x.key x.bytes x.signature y ≡ tr
 same_entry x y p =
     let parts = and_parts _ _ p in
     let rest = and_parts (bytes_eq x.bytes y.bytes) _ parts.1 in
-    same_parts x y (ap key_of ((bytes_eq-Decides x.key.bytes y.key.bytes).0 parts.0)) ((bytes_eq-Decides x.bytes y.bytes).0 rest.0) (ap signature_of ((bytes_eq-Decides x.signature.bytes y.signature.bytes).0 rest.1))
+    same_parts x y (ap key_of (bytes_eq-true x.key.bytes y.key.bytes parts.0)) (bytes_eq-true x.bytes y.bytes rest.0) (ap signature_of (bytes_eq-true x.signature.bytes y.signature.bytes rest.1))
 
 -- an entry passes as itself
 pub is_entry-itself : (key : KeyName) (bytes : List ℕ) (signature : Signature) → is_entry key bytes signature (log_entry key bytes signature) ≡ true
 is_entry-itself key bytes signature =
-    and_from _ _ ((bytes_eq-Decides key.bytes key.bytes).1 refl)
-    (and_from _ _ ((bytes_eq-Decides bytes bytes).1 refl) ((bytes_eq-Decides signature.bytes signature.bytes).1 refl))
+    and_from _ _ (bytes_eq-same key.bytes key.bytes refl)
+    (and_from _ _ (bytes_eq-same bytes bytes refl) (bytes_eq-same signature.bytes signature.bytes refl))
 
 -- what is accepted stands in the log
 pub found_entry : (entries : List SignedEntry) (key : KeyName) (bytes : List ℕ) (signature : Signature) → has_entry entries key bytes signature ≡ true → Contains entries (log_entry key bytes signature)

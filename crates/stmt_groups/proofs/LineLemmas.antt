@@ -1,8 +1,8 @@
 -- The lines at listed places, and the others.
-use Rattle.std.proofs.Common.{◌≡◌, ℕ, ◌+◌, ◌-◌, ◌<◌, ◌≤◌, Bool, true, false, ◌&&◌, nat_lt, ◌==◌, List, [], ◌∷◌, ◌++◌, length, All, Contains, inl, inr, refl, sym, ap, ◌∙◌, subst, arith}
+use Rattle.std.proofs.Common.{◌≡◌, ℕ, ◌+◌, ◌-◌, ◌<◌, ◌≤◌, true, false, nat_lt, ◌==◌, List, [], ◌∷◌, ◌++◌, length, All, Contains, inl, inr, refl, sym, ap, ◌∙◌, subst, arith}
 use Rattle.std.specs.Prelude.{◌⊎◌}
 use Rattle.std.specs.List.{AllByRecursion, list_all}
-use Rattle.std.proofs.lemmas.Bool.{cases_Bool, cases_order}
+use Rattle.std.proofs.lemmas.Bool.{and_parts, cases_Bool, cases_order}
 use Rattle.std.proofs.lemmas.Bool.Decides.{nat_tests}
 use Rattle.std.proofs.lemmas.List.Elements.{All-cons, All-head, All-tail, All-nil, recursion_from_All, Contains-append_left, Contains-append_right, Contains-append_cases}
 use Rattle.base_types.specs.Sets.{SameElements}
@@ -70,6 +70,7 @@ in_one at places (l ∷ ls) x c = elim (cases_Bool (is_listed places at)) [
       ]
 ]
 
+-- the lines at the places and the others are together the lines
 pub lines_are_split : (places : List ℕ) (lines : List (List ℕ)) → SameElements (lines_at places lines ++ other_lines places lines) lines
 lines_are_split places lines x = (
   λ c. elim (Contains-append_cases (lines_at places lines) (other_lines places lines) x c) [
@@ -101,6 +102,7 @@ all_listed at places (l ∷ ls) none = elim (cases_Bool (is_listed places at)) [
       absurd (omega arith)
 ]
 
+-- without another line the listed ones are all
 pub no_other_line : (places : List ℕ) (lines : List (List ℕ)) → length (other_lines places lines) ≡ 0 → lines_at places lines ≡ lines
 no_other_line places lines none = all_listed 0 places lines none
 
@@ -135,14 +137,10 @@ late at (p ∷ ps) above =
     let other : (p == at) ≡ false = grind (arith, nat_tests) in
     rw other (late at ps above.1)
 
-both_true : (a b : Bool) → (a && b) ≡ true → (a ≡ true) × (b ≡ true)
-both_true true b h = (refl, h)
-both_true false b h = absurd (cc)
-
 tests_hold : (p : ℕ) (ps : List ℕ) → list_all (nat_lt p) ps ≡ true → AllByRecursion (λ q. p < q) ps
 tests_hold p [] h = tt
 tests_hold p (q ∷ ps) h =
-    let both = both_true (nat_lt p q) (list_all (nat_lt p) ps) h in
+    let both = and_parts (nat_lt p q) (list_all (nat_lt p) ps) h in
     let test : nat_lt p q ≡ true = both.0 in
     let here : p < q = grind (arith, nat_tests) in
     (here, tests_hold p ps both.1)
@@ -159,7 +157,7 @@ counted [] at (p ∷ ps) least below r =
     absurd (omega arith)
 counted (l ∷ ls) at [] least below r = counted ls (at + 1) [] tt tt r
 counted (l ∷ ls) at (p ∷ ps) least below r =
-    let rises = both_true (list_all (nat_lt p) ps) (rise ps) r in
+    let rises = and_parts (list_all (nat_lt p) ps) (rise ps) r in
     let above : AllByRecursion (λ q. p < q) ps = tests_hold p ps rises.0 in
     let first : at ≤ p = least.0 in
     let bound : AllByRecursion (λ q. q < (at + 1) + length ls) (p ∷ ps) = weaker (λ q. q < at + length (l ∷ ls)) (λ q. q < (at + 1) + length ls) (λ q h. omega arith) (p ∷ ps) below in
@@ -184,10 +182,12 @@ at_least_none : (ps : List ℕ) → AllByRecursion (λ p. 0 ≤ p) ps
 at_least_none [] = tt
 at_least_none (p ∷ ps) = (omega arith, at_least_none ps)
 
+-- of rising places each is a listed line
 pub lines_at-length : (indexes : List ℕ) (lines : List (List ℕ)) → rise indexes ≡ true → All (λ i. i < length lines) indexes → length (lines_at indexes lines) ≡ length indexes
 lines_at-length indexes lines r below =
     counted lines 0 indexes (at_least_none indexes) (weaker (λ i. i < length lines) (λ i. i < 0 + length lines) (λ i h. omega arith) indexes (recursion_from_All (λ i. i < length lines) indexes below)) r
 
+-- and all other lines are the rest
 pub other_lines-length : (indexes : List ℕ) (lines : List (List ℕ)) → rise indexes ≡ true → All (λ i. i < length lines) indexes → length (other_lines indexes lines) ≡ length lines - length indexes
 other_lines-length indexes lines r below =
     let here : length (lines_at indexes lines) ≡ length indexes = lines_at-length indexes lines r below in

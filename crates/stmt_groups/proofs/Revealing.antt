@@ -14,7 +14,7 @@ use Rattle.nquads.proofs.ReadingElements.{All-from_contains, from_rising, to_ris
 use Rattle.nquads.proofs.ReadingLines.{line_one_reading, statement_from_renamed}
 use Rattle.nquads.proofs.ReadingRenamings.{Same-from_one_to_one}
 use Rattle.nquads.proofs.ReadingSame.{text_determines_dataset}
-use Rattle.nquads.proofs.ReadingTerms.{named}
+use Rattle.nquads.proofs.ReadingTerms.{label_blank}
 use Rattle.stmt_groups.specs.declared.types.BaseRecord.{BaseRecord}
 use Rattle.stmt_groups.specs.Lines.{AreLines, lines_at, other_lines}
 use Rattle.stmt_groups.specs.Datasets.{LabelledDataset, IsLabelled, IsAt, IsElsewhere, dataset_lines}
@@ -67,17 +67,17 @@ module _ (issued document : LabelledDataset) (i : IsLabelled issued) (d : IsLabe
 
   keeps_label : (s t : Statement) → Contains document.statements s → Contains issued.statements t → line document.label s ≡ line issued.label t → (b : Blank) → Contains (blanks_of s) b → (issued.label (renaming b) ≡ document.label b) × StandsIn issued.statements (renaming b)
   keeps_label s t m n e b c =
-      let same : map (named document.label) (blanks_of s) ≡ map (named issued.label) (blanks_of t) =
-      sym (blanks_of-rename (named document.label) s) ∙ ap blanks_of (one_reading s t m n e) ∙ blanks_of-rename (named issued.label) t in
-      let r = Contains-from_map (named issued.label) (blanks_of t) (named document.label b) (subst (λ z. Contains z (named document.label b)) same (Contains-map (named document.label) (blanks_of s) b c)) in
+      let same : map (label_blank document.label) (blanks_of s) ≡ map (label_blank issued.label) (blanks_of t) =
+      sym (blanks_of-rename (label_blank document.label) s) ∙ ap blanks_of (one_reading s t m n e) ∙ blanks_of-rename (label_blank issued.label) t in
+      let r = Contains-from_map (label_blank issued.label) (blanks_of t) (label_blank document.label b) (subst (λ z. Contains z (label_blank document.label b)) same (Contains-map (label_blank document.label) (blanks_of s) b c)) in
       with_label-found issued.label (flat_map blanks_of issued.statements) (document.label b) b r.0 (to_blanks_in issued.statements t r.0 n r.1) (ap (λ (z : Blank). z.name) r.2)
 
   -- a statement with the line of an issued one goes to it
   pub goes_to : (s t : Statement) → Contains document.statements s → Contains issued.statements t → line document.label s ≡ line issued.label t → rename renaming s ≡ t
   goes_to s t m n e =
-      let labels : rename (named issued.label) (rename renaming s) ≡ with_labels document.label s =
-      rename-rename (named issued.label) renaming (named document.label) s (λ b c. ap (λ (l : List ℕ). record { kind = by_label; name = l }) (keeps_label s t m n e b c).0) in
-      statement_from_renamed (named issued.label) (rename renaming s) t
+      let labels : rename (label_blank issued.label) (rename renaming s) ≡ with_labels document.label s =
+      rename-rename (label_blank issued.label) renaming (label_blank document.label) s (λ b c. ap (λ (l : List ℕ). record { kind = by_label; name = l }) (keeps_label s t m n e b c).0) in
+      statement_from_renamed (label_blank issued.label) (rename renaming s) t
       (λ a b x y k.
       let r = Contains-from_map renaming (blanks_of s) a (subst (λ z. Contains z a) (blanks_of-rename renaming s) x) in
       let stands : StandsIn issued.statements a = subst (StandsIn issued.statements) r.2 (keeps_label s t m n e r.0 r.1).1 in

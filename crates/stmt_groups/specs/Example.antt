@@ -10,14 +10,15 @@ use Rattle.stmt_groups.specs.Datasets.{LabelledDataset}
 use Rattle.stmt_groups.specs.Proofs.{VerifyData}
 use Rattle.stmt_groups.specs.Records.{sign_data}
 
--- a key and a signature of one byte, repeated
+-- a key of one byte, repeated
 abbrev pub key : ℕ → KeyName
 key n = record { bytes = replicate 35 n }
 
+-- a signature of one byte, repeated
 abbrev pub signature : ℕ → Signature
 signature n = record { bytes = replicate 64 n }
 
--- the statement that urn:s has this value of urn:p, and its line
+-- the statement that urn:s has this value of urn:p
 abbrev pub statement : List ℕ → Statement
 statement value =
     record {
@@ -27,6 +28,7 @@ statement value =
       graph = None;
     }
 
+-- its line
 abbrev pub statement_line : List ℕ → List ℕ
 statement_line value = codes "<urn:s> <urn:p> <" ++ value ++ codes "> .\n"
 
@@ -34,7 +36,7 @@ statement_line value = codes "<urn:s> <urn:p> <" ++ value ++ codes "> .\n"
 abbrev pub dataset : List (List ℕ) → LabelledDataset
 dataset values = record { statements = map statement values; label = λ b. [] }
 
--- Two records, whose mandatory statement is that of urn:a.
+-- a record whose mandatory statement is that of urn:a
 abbrev pub first_record : BaseRecord
 first_record = record {
   issuer = key 1;
@@ -44,6 +46,7 @@ first_record = record {
   others = statement_line (codes "urn:b") ∷ statement_line (codes "urn:c") ∷ [];
 }
 
+-- another, of the same issuer
 abbrev pub second_record : BaseRecord
 second_record = record {
   issuer = key 1;
@@ -53,6 +56,7 @@ second_record = record {
   others = statement_line (codes "urn:d") ∷ [];
 }
 
+-- both records
 abbrev pub history : List BaseRecord
 history = first_record ∷ second_record ∷ []
 

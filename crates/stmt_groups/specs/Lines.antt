@@ -11,13 +11,14 @@ AreLines texts = All IsLine texts
 abbrev pub is_listed : List ℕ → ℕ → Bool
 is_listed places at = list_any (λ n. n == at) places
 
--- the lines at the listed places, and those at the others, where the first line stands at a place
+-- the lines at the listed places, where the first line stands at a place
 abbrev pub listed_from : ℕ → List ℕ → List (List ℕ) → List (List ℕ)
 listed_from at places [] = []
 listed_from at places (l ∷ ls) =
     if is_listed places at then l ∷ listed_from (at + 1) places ls
     else listed_from (at + 1) places ls
 
+-- the lines at all other places
 abbrev pub unlisted_from : ℕ → List ℕ → List (List ℕ) → List (List ℕ)
 unlisted_from at places [] = []
 unlisted_from at places (l ∷ ls) =

@@ -25,10 +25,11 @@ pub record VerifyData : Type 0 where
   pub options : LabelledDataset
   pub proof : DerivedProof
 
--- the lines of the document that the proof says are mandatory, and all others
+-- the lines of the document that the proof says are mandatory
 abbrev pub mandatory_lines : VerifyData → List (List ℕ)
 mandatory_lines v = lines_at v.proof.indexes (dataset_lines v.document)
 
+-- all its other lines
 abbrev pub non_mandatory_lines : VerifyData → List (List ℕ)
 non_mandatory_lines v = other_lines v.proof.indexes (dataset_lines v.document)
 

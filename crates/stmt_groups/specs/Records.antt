@@ -21,6 +21,7 @@ pub record Signing : Type 0 where
   pub key : KeyName
   pub bytes : List ℕ
 
+-- these bytes under this key
 abbrev pub signing : KeyName → List ℕ → Signing
 signing key bytes = record { key = key; bytes = bytes }
 
