@@ -1,1 +1,1 @@
-pub mod Differ
+pub mod UniqueSpellings

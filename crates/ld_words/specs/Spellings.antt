@@ -1,5 +1,7 @@
--- The spelling of each keyword and of each error code: the one table of both.
-use Rattle.std.specs.Prelude.{ℕ, List as ListOf, codes}
+-- The spelling of each keyword and of each error code: the one table of both. And the form of a keyword.
+use Rattle.std.specs.Prelude.{ℕ, List as ListOf, [], ◌∷◌, Bool, true, false, not, ◌&&◌, ◌==◌, codes}
+use Rattle.std.specs.List.{list_all}
+use Rattle.std.specs.Char.{is_ascii_alphabetic}
 use Rattle.ld_words.specs.declared.keyword_table.LdKeyword.{LdKeyword}
 use Rattle.ld_words.specs.declared.keyword_table.LdKeyword.TheVariants.{Base, Container, Context, Direction, Graph, Id, Import, Included, Index, Json, Language, List, Nest, Absent, Prefix, Propagate, Protected, Reverse, Set, Kind, Value, Version, Vocab}
 use Rattle.ld_words.specs.declared.code_table.Code.{Code}
@@ -31,7 +33,18 @@ keyword_text Value = codes "@value"
 keyword_text Version = codes "@version"
 keyword_text Vocab = codes "@vocab"
 
--- how an error code is spelled: the codes of the standard, and from `unmapped property` on our own. -- JSON-LD 1.1 API, 9.6, JsonLdErrorCode
+-- whether a text is empty
+abbrev pub is_empty : ListOf ℕ → Bool
+is_empty [] = true
+is_empty (c ∷ rest) = false
+
+-- `@` and one or more letters, the form of a keyword. -- JSON-LD 1.1 API, 4.2.2 and 5.2.2: "@"1*ALPHA
+abbrev pub has_keyword_form : ListOf ℕ → Bool
+has_keyword_form [] = false
+has_keyword_form (c ∷ rest) = (c == 64) && not (is_empty rest) && list_all is_ascii_alphabetic rest
+
+-- how an error code is spelled: the codes of the standard, and from `unmapped property` on our own.
+-- JSON-LD 1.1 API, 9.6, JsonLdErrorCode
 abbrev pub code_text : Code → ListOf ℕ
 code_text InvalidContextNullification = codes "invalid context nullification"
 code_text LoadingRemoteContextFailed = codes "loading remote context failed"

@@ -1,8 +1,9 @@
+//! The codes of errors, of JSON-LD 1.1 API, 9.6 (JsonLdErrorCode), and our own.
 ghost use Rattle.std.specs.Prelude.{◌≡◌};
 ghost use Rattle.ld_words.specs.Spellings.{code_text};
 
-/// An error code: those of JSON-LD 1.1 API (section 9.6, JsonLdErrorCode) that reading a document can
-/// give, and from `UnmappedProperty` on our own, for what is refused here and is no error there.
+/// An error code: those of JSON-LD 1.1 API (section 9.6, JsonLdErrorCode) that reading a document
+/// can give, and from `UnmappedProperty` on our own, for what is refused here and is no error there.
 #[derive(Clone, Copy, Debug, PartialEq, Eq)]
 pub enum Code {
     /// `invalid context nullification`
@@ -163,8 +164,3 @@ impl Code {
         }
     }
 }
-
-/// No two codes are spelled alike.
-pub fn code_spellings_differ()
-    ensures { (j k : Code) → code_text j ≡ code_text k → j ≡ k }
-{}

@@ -1,5 +1,8 @@
-ghost use Rattle.std.specs.Prelude.{◌≡◌, ◌↔◌, ◌≢◌, Some, None};
-ghost use Rattle.ld_words.specs.Spellings.{keyword_text};
+//! The keywords, and the form that a keyword has. JSON-LD 1.1, 1.7, Syntax Tokens and Keywords.
+ghost use Rattle.std.specs.Prelude.{◌≡◌, ◌↔◌, ◌≢◌, ◌&&◌, not, Some, None};
+ghost use Rattle.std.specs.List.{list_all};
+ghost use Rattle.std.specs.Char.{is_ascii_alphabetic};
+ghost use Rattle.ld_words.specs.Spellings.{has_keyword_form, is_empty, keyword_text};
 
 /// A keyword of JSON-LD 1.1 (JSON-LD 1.1, section 1.7), in the order of the spellings.
 ///
@@ -119,6 +122,9 @@ pub fn keyword(text: &str) -> Option<LdKeyword>
     ensures some { (k : LdKeyword) → (result ≡ Some k) ↔ (text.now ≡ keyword_text k) }
     ensures none { (result ≡ None) ↔ ((k : LdKeyword) → text.now ≢ keyword_text k) }
 {
+    if !text.as_bytes().starts_with(b"@") {
+        return None;
+    }
     for known in KEYWORDS {
         if known.text() == text {
             return Some(known);
@@ -127,7 +133,30 @@ pub fn keyword(text: &str) -> Option<LdKeyword>
     None
 }
 
-/// No two keywords are spelled alike.
-pub fn keyword_spellings_differ()
-    ensures { (j k : LdKeyword) → keyword_text j ≡ keyword_text k → j ≡ k }
-{}
+fn all_are_letters(bytes: &[u8]) -> bool
+    ensures { result ≡ list_all is_ascii_alphabetic bytes.now }
+{
+    bytes.iter().all(|byte| byte.is_ascii_alphabetic())
+}
+
+/// Whether these are ASCII letters, at least one.
+#[tactic(auto, using(crate::proofs::UniqueSpellings::some_letters))]
+fn is_letters(bytes: &[u8]) -> bool
+    ensures { result ≡ (not (is_empty bytes.now) && list_all is_ascii_alphabetic bytes.now) }
+{
+    match bytes {
+        [] => false,
+        [_, ..] => all_are_letters(bytes),
+    }
+}
+
+/// Whether `text` is `@` and one or more ASCII letters, the form of a keyword: such a text that is no
+/// keyword is read as nothing. JSON-LD 1.1 API, sections 4.2.2 and 5.2.2.
+pub fn is_keyword_form(text: &str) -> bool
+    ensures { result ≡ has_keyword_form text.now }
+{
+    match text.as_bytes() {
+        [] => false,
+        [first, rest @ ..] => *first == b'@' && is_letters(rest),
+    }
+}
