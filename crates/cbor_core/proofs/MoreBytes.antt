@@ -30,8 +30,8 @@ EndsOrStays Refuses rest e = IsTruncated rest e ⊎ ((more : List ℕ) → Refus
 width_stays : (w : Width) (least at : ℕ) (bytes : List ℕ) (e : CborFault) → RefusesWidth w least at bytes e → (e ≡ f.Truncated (suc at + length bytes)) ⊎ ((more : List ℕ) → RefusesWidth w least at (bytes ++ more) e)
 width_stays w least at bytes e (inl s) = inl s.1
 width_stays w least at bytes e (inr s) = inr (λ more.
-  let same = ap (from_be_bytes w) (take-append-le (byte_len w) bytes more s.0) in
-  inr (omega (arith, s.0, length-append bytes more), omega (arith, same, s.1), s.2))
+    let same = ap (from_be_bytes w) (take-append-le (byte_len w) bytes more s.0) in
+    inr (omega (arith, s.0, length-append bytes more), omega (arith, same, s.1), s.2))
 
 argument_stays : (code at : ℕ) (bytes : List ℕ) (e : CborFault) → RefusesArgument code at bytes e → (e ≡ f.Truncated (suc at + length bytes)) ⊎ ((more : List ℕ) → RefusesArgument code at (bytes ++ more) e)
 argument_stays code at bytes e (inl s) = elim (width_stays w8 24 at bytes e s.1) [

@@ -436,4 +436,3 @@ module _ (total : ℕ) (inner : Reader) (spells : Item → ℕ → List ℕ → 
         let r = each_stops takes so n (done ++ x.0 ∷ []) mid e (ends_behind total rest mid t.count t.text ends to_mid) t.fits p.2 in
         (x.0 ∷ r.0, t.count + r.1, t.text ++ r.2, r.3, omega (arith, r.4), (t.count, r.1, t.text, r.2, t.spelled, r.5, refl, refl), behind_then rest mid r.3 t.count r.1 t.text r.2 to_mid r.6, r.7)
   ]
-

@@ -75,21 +75,31 @@ module _ (total : ℕ) (inner : Reader) (spells : Item → ℕ → List ℕ → 
   to_stops : (entries : List (ℕ × Item)) (rest : Rest) (e : CborFault) → RefusesEntry Refuses entries rest e → EntryStops (put_all [] entries) rest e
   unfolding EntryStops
   to_stops entries rest e (inl s) = inl s
-  to_stops entries rest e (inr s) = inr (s.0, s.1, s.2, elim (s.3) [
-    | inl r ↦ elim (boolean (has s.0 (put_all [] entries))) [
-      | inl t ↦ inl (t, r.1)
-      | inr t ↦ absurd (r.0 (lacks_before s.0 entries [] t).1)
-    ]
-    | inr r ↦ inr (lacks_after s.0 entries [] refl r.0, r.1)
-  ])
+  to_stops entries rest e (inr s) = inr (
+    s.0,
+    s.1,
+    s.2,
+    elim (s.3) [
+      | inl r ↦ elim (boolean (has s.0 (put_all [] entries))) [
+        | inl t ↦ inl (t, r.1)
+        | inr t ↦ absurd (r.0 (lacks_before s.0 entries [] t).1)
+      ]
+      | inr r ↦ inr (lacks_after s.0 entries [] refl r.0, r.1)
+    ],
+  )
 
   from_stops : (entries : List (ℕ × Item)) (rest : Rest) (e : CborFault) → EntryStops (put_all [] entries) rest e → RefusesEntry Refuses entries rest e
   unfolding EntryStops
   from_stops entries rest e (inl s) = inl s
-  from_stops entries rest e (inr s) = inr (s.0, s.1, s.2, elim (s.3) [
-    | inl r ↦ inl ((λ lacks. true≢false (sym r.0 ∙ lacks_after s.0 entries [] refl lacks)), r.1)
-    | inr r ↦ inr ((lacks_before s.0 entries [] r.0).1, r.1)
-  ])
+  from_stops entries rest e (inr s) = inr (
+    s.0,
+    s.1,
+    s.2,
+    elim (s.3) [
+      | inl r ↦ inl ((λ lacks. true≢false (sym r.0 ∙ lacks_after s.0 entries [] refl lacks)), r.1)
+      | inr r ↦ inr ((lacks_before s.0 entries [] r.0).1, r.1)
+    ],
+  )
 
   entry_refused : RefusedSo total inner Refuses → (k : ℕ) (done : List (ℕ × Item)) (rest : Rest) (e : CborFault) → EndsAt total rest → EntryStops done rest e → entries_at total inner done (suc k) rest.left rest.bytes ≡ Err e
   unfolding EntryStops entries_at

@@ -173,6 +173,7 @@ front_refused item count front more h le s some =
         let all : text ++ (rest ++ more) ≡ (front ++ more) ++ [] = sym (append_assoc text rest more) ∙ ap (λ (z : List ℕ). z ++ more) (sym e) ∙ sym (append-nil (front ++ more)) in
         let one = one_item 4 n count other item text (front ++ more) (rest ++ more) [] t s all in
         omega (arith, ap length one.3, length-append rest more, some)
+
     by_outcome : (r : Result Item CborFault) → reading front ≡ r → IsRefused front (f.Truncated (length front))
     by_outcome (Ok other) e =
         let o = found front other h e in

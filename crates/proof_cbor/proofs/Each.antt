@@ -9,7 +9,7 @@ use Rattle.proof_cbor.specs.declared.fault.ValueFault.{ValueFault}
 use Rattle.proof_cbor.specs.declared.fault.ValueFault.TheVariants as fault
 use Rattle.cbor_core.specs.Internal.Results.{◌>>=◌, Fails}
 use Rattle.cbor_core.proofs.Outcomes.{fails_on}
-use Rattle.proof_cbor.specs.Reading.{is_memory, each_is, one_of, ones_from, ones_of}
+use Rattle.proof_cbor.specs.Internal.Reading.{is_memory, each_is, one_of, ones_from, ones_of}
 
 -- the items from i on are the item there and those behind it
 pub from : {X : Type 0} (xs : List X) (i : ℕ) (x : X) → i < length xs → x ≡ get_or xs i x → drop i xs ≡ x ∷ drop (i + 1) xs

@@ -1,7 +1,7 @@
 -- The five parts of a list.
 use Rattle.std.proofs.Common.{◌≡◌, List, [], ◌∷◌, length, get_or, Some, None, refl, arith}
 use Rattle.cbor_core.specs.declared.item.Item.{Item}
-use Rattle.proof_cbor.specs.Reading.{five_items}
+use Rattle.proof_cbor.specs.Internal.Reading.{five_items}
 
 pub five_is : (xs : List Item) (a b c d e : Item) → length xs ≡ 5 → a ≡ get_or xs 0 a → b ≡ get_or xs 1 b → c ≡ get_or xs 2 c → d ≡ get_or xs 3 d → e ≡ get_or xs 4 e → five_items xs ≡ Some (a, b, c, d, e)
 five_is [] a b c d e n ea eb ec ed ee = absurd (omega arith)

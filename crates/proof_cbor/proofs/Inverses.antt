@@ -11,9 +11,10 @@ use Rattle.proof_cbor.specs.declared.fault.Part.{Part}
 use Rattle.proof_cbor.specs.declared.fault.ValueFault.{ValueFault}
 use Rattle.proof_cbor.specs.declared.fault.ValueFault.TheVariants as fault
 use Rattle.proof_cbor.specs.declared.value.MapEntry.{MapEntry}
+use Rattle.proof_cbor.specs.Refusals.{Five}
 use Rattle.proof_cbor.specs.Values.{all_sized, pair_of}
 use Rattle.cbor_core.specs.Internal.Results.{◌>>=◌}
-use Rattle.proof_cbor.specs.Reading.{blob_level, text_level, whole_level, list_level, map_level, blob_kind, text_kind, whole_kind, entry_of, entry_kind, digest_size, each_is, ones_of, of_size, blob_of, blobs_of, texts_of, wholes_of, label_entries_of, Five, five_items, five_parts}
+use Rattle.proof_cbor.specs.Internal.Reading.{blob_level, text_level, whole_level, list_level, map_level, blob_kind, text_kind, whole_kind, entry_of, entry_kind, digest_size, each_is, ones_of, of_size, blob_of, blobs_of, texts_of, wholes_of, label_entries_of, five_items, five_parts}
 use Rattle.cbor_core.proofs.Outcomes.{same_ok, ended, went_on}
 use Rattle.proof_cbor.proofs.Each.{parts}
 
@@ -25,7 +26,7 @@ some_of None d x e = absurd cc
 
 -- ---- kinds of items
 
-blob_back : (i : Item) (c : List ℕ) → blob_kind i ≡ Some c → i ≡ v.Blob c
+pub blob_back : (i : Item) (c : List ℕ) → blob_kind i ≡ Some c → i ≡ v.Blob c
 blob_back = by_cases (λ (i : Item). (c : List ℕ) → blob_kind i ≡ Some c → i ≡ v.Blob c) record {
   whole = λ n c e. absurd (let x = sym (ap blob_level (v.outs-Whole n)) ∙ e in cc);
   blob = λ b c e. let x = sym (ap blob_level (v.outs-Blob b)) ∙ e in let y : b ≡ c = cc in ap v.Blob y;
@@ -34,7 +35,7 @@ blob_back = by_cases (λ (i : Item). (c : List ℕ) → blob_kind i ≡ Some c �
   pairs = λ ps h c e. absurd (let x = sym (ap blob_level (v.outs-Map ps)) ∙ e in cc);
 }
 
-text_back : (i : Item) (c : List ℕ) → text_kind i ≡ Some c → i ≡ v.Text c
+pub text_back : (i : Item) (c : List ℕ) → text_kind i ≡ Some c → i ≡ v.Text c
 text_back = by_cases (λ (i : Item). (c : List ℕ) → text_kind i ≡ Some c → i ≡ v.Text c) record {
   whole = λ n c e. absurd (let x = sym (ap text_level (v.outs-Whole n)) ∙ e in cc);
   blob = λ b c e. absurd (let x = sym (ap text_level (v.outs-Blob b)) ∙ e in cc);
@@ -43,7 +44,7 @@ text_back = by_cases (λ (i : Item). (c : List ℕ) → text_kind i ≡ Some c �
   pairs = λ ps h c e. absurd (let x = sym (ap text_level (v.outs-Map ps)) ∙ e in cc);
 }
 
-whole_back : (i : Item) (c : ℕ) → whole_kind i ≡ Some c → i ≡ v.Whole c
+pub whole_back : (i : Item) (c : ℕ) → whole_kind i ≡ Some c → i ≡ v.Whole c
 whole_back = by_cases (λ (i : Item). (c : ℕ) → whole_kind i ≡ Some c → i ≡ v.Whole c) record {
   whole = λ n c e. let x = sym (ap whole_level (v.outs-Whole n)) ∙ e in let y : n ≡ c = cc in ap v.Whole y;
   blob = λ b c e. absurd (let x = sym (ap whole_level (v.outs-Blob b)) ∙ e in cc);
@@ -52,7 +53,7 @@ whole_back = by_cases (λ (i : Item). (c : ℕ) → whole_kind i ≡ Some c → 
   pairs = λ ps h c e. absurd (let x = sym (ap whole_level (v.outs-Map ps)) ∙ e in cc);
 }
 
-list_back : (i : Item) (c : List Item) → list_level (out-Item i) ≡ Some c → i ≡ v.List c
+pub list_back : (i : Item) (c : List Item) → list_level (out-Item i) ≡ Some c → i ≡ v.List c
 list_back = by_cases (λ (i : Item). (c : List Item) → list_level (out-Item i) ≡ Some c → i ≡ v.List c) record {
   whole = λ n c e. absurd (let x = sym (ap list_level (v.outs-Whole n)) ∙ e in cc);
   blob = λ b c e. absurd (let x = sym (ap list_level (v.outs-Blob b)) ∙ e in cc);
@@ -61,7 +62,7 @@ list_back = by_cases (λ (i : Item). (c : List Item) → list_level (out-Item i)
   pairs = λ ps h c e. absurd (let x = sym (ap list_level (v.outs-Map ps)) ∙ e in cc);
 }
 
-map_back : (i : Item) (c : List (Pair Item)) → map_level (out-Item i) ≡ Some c → i ≡ v.Map c
+pub map_back : (i : Item) (c : List (Pair Item)) → map_level (out-Item i) ≡ Some c → i ≡ v.Map c
 map_back = by_cases (λ (i : Item). (c : List (Pair Item)) → map_level (out-Item i) ≡ Some c → i ≡ v.Map c) record {
   whole = λ n c e. absurd (let x = sym (ap map_level (v.outs-Whole n)) ∙ e in cc);
   blob = λ b c e. absurd (let x = sym (ap map_level (v.outs-Blob b)) ∙ e in cc);
@@ -79,29 +80,29 @@ entry_some p (Some d) e h =
 abbrev pair_at : ℕ → Item → Pair Item
 pair_at key value = record { key = key; value = value }
 
-entry_back : (p : Pair Item) (e : MapEntry) → entry_kind p ≡ Some e → p ≡ pair_of e
+pub entry_back : (p : Pair Item) (e : MapEntry) → entry_kind p ≡ Some e → p ≡ pair_of e
 entry_back p e h =
     let s = entry_some p (blob_kind p.value) e h in
     let value : p.value ≡ v.Blob e.digest = blob_back p.value e.digest s.0 in
     let first : p ≡ pair_at e.number p.value = ap (λ (k : ℕ). pair_at k p.value) s.1 in
     first ∙ ap (λ (i : Item). pair_at e.number i) value
 
-blob_forth : (c : List ℕ) → blob_kind (v.Blob c) ≡ Some c
+pub blob_forth : (c : List ℕ) → blob_kind (v.Blob c) ≡ Some c
 blob_forth c = ap blob_level (v.outs-Blob c)
 
-text_forth : (c : List ℕ) → text_kind (v.Text c) ≡ Some c
+pub text_forth : (c : List ℕ) → text_kind (v.Text c) ≡ Some c
 text_forth c = ap text_level (v.outs-Text c)
 
-whole_forth : (n : ℕ) → whole_kind (v.Whole n) ≡ Some n
+pub whole_forth : (n : ℕ) → whole_kind (v.Whole n) ≡ Some n
 whole_forth n = ap whole_level (v.outs-Whole n)
 
-entry_forth : (e : MapEntry) → entry_kind (pair_of e) ≡ Some e
+pub entry_forth : (e : MapEntry) → entry_kind (pair_of e) ≡ Some e
 entry_forth e = ap (option_map (entry_of e.number)) (blob_forth e.digest)
 
 -- ---- lists of one kind
 
 module _ {X Y : Type 0} (kind : X → Option Y) (con : Y → X) where
-  each_back : ((x : X) (y : Y) → kind x ≡ Some y → x ≡ con y) → (xs : List X) (ys : List Y) → each_is kind xs ≡ Some ys → xs ≡ map con ys
+  pub each_back : ((x : X) (y : Y) → kind x ≡ Some y → x ≡ con y) → (xs : List X) (ys : List Y) → each_is kind xs ≡ Some ys → xs ≡ map con ys
   unfolding each_is
   each_back back [] ys e =
       let none : [] ≡ ys = cc in
@@ -113,7 +114,7 @@ module _ {X Y : Type 0} (kind : X → Option Y) (con : Y → X) where
       let all : x ∷ xs ≡ con p.0 ∷ map con p.1 = cc (first, rest) in
       subst (λ (z : List Y). x ∷ xs ≡ map con z) p.4 all
 
-  each_forth : ((y : Y) → kind (con y) ≡ Some y) → (ys : List Y) → each_is kind (map con ys) ≡ Some ys
+  pub each_forth : ((y : Y) → kind (con y) ≡ Some y) → (ys : List Y) → each_is kind (map con ys) ≡ Some ys
   unfolding each_is
   each_forth forth [] = refl
   each_forth forth (y ∷ ys) = rw (forth y, each_forth forth ys) refl

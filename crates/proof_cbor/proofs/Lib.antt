@@ -6,3 +6,5 @@ pub mod Inverses
 pub mod Spelled
 pub mod Making
 pub mod Drafts
+pub mod Refusing
+pub mod RefusingTexts

@@ -14,7 +14,7 @@ use Rattle.cbor_core.specs.Writing.{largest_over, nesting_step, item_nesting, co
 use Rattle.base_types.specs.Order.{rise}
 use Rattle.cbor_core.proofs.Lawful.{nesting-List, nesting-Map, rise-List, rise-Map}
 use Rattle.base_types.specs.declared.memory.Memory.{Memory}
-use Rattle.proof_cbor.specs.Reading.{reading_base, reading_derived}
+use Rattle.proof_cbor.specs.Internal.Reading.{reading_base, reading_derived}
 use Rattle.cbor_core.proofs.Sorted.{kept}
 use Rattle.proof_cbor.specs.declared.fault.ValueFault.{ValueFault}
 use Rattle.proof_cbor.proofs.Spelled.{base_read, derived_read}
@@ -171,17 +171,9 @@ pub base_text : (value : BaseValue) (bytes seen : List ℕ) (result : Result (Li
 base_text value bytes seen (Ok text) can le small same is t = base_is_text value seen text can le small (same ∙ is) t
 base_text value bytes seen (Err e) can le small same is t = tt
 
-pub base_text_back : (value : BaseValue) (result : Result (List ℕ) Memory) → IfOk result (λ (text : List ℕ). SpellsBase value text) → IfOk result (λ (text : List ℕ). reading_base text ≡ Ok value)
-base_text_back value (Ok text) s = base_read text value s
-base_text_back value (Err e) s = tt
-
 pub derived_text : (value : DerivedValue) (bytes seen : List ℕ) (result : Result (List ℕ) Memory) → CanWriteDerived value → rise value.indexes ≡ true → count_of (derived_item value) ≤ 100000 → IsBytes seen → seen ≡ bytes → bytes ≡ derived_proof_bytes value → IfOk result (λ text. text ≡ multibase_text seen) → IfOk result (λ (text : List ℕ). SpellsDerived value text)
 derived_text value bytes seen (Ok text) can r le small same is t = derived_is_text value seen text can r le small (same ∙ is) t
 derived_text value bytes seen (Err e) can r le small same is t = tt
-
-pub derived_text_back : (value : DerivedValue) (result : Result (List ℕ) Memory) → IfOk result (λ (text : List ℕ). SpellsDerived value text) → IfOk result (λ (text : List ℕ). reading_derived text ≡ Ok value)
-derived_text_back value (Ok text) s = derived_read text value s
-derived_text_back value (Err e) s = tt
 
 -- ---- what was read may be written
 

@@ -22,7 +22,7 @@ use Rattle.proof_cbor.specs.declared.value.BaseValue.{BaseValue}
 use Rattle.proof_cbor.specs.declared.value.DerivedValue.{DerivedValue}
 use Rattle.proof_cbor.specs.Values.{base_header, derived_header, multibase_text, IsText, pair_of, base_item, derived_item, BaseSizes, DerivedSizes, SpellsBehind, SpellsBase, SpellsDerived}
 use Rattle.cbor_core.specs.Internal.Results.{Gives}
-use Rattle.proof_cbor.specs.Reading.{is_memory, blob_of, blobs_of, texts_of, wholes_of, label_entries_of, five_parts, base_of, derived_of, base64_result, multibase_bytes, behind, item_of, item_behind, reading_base, reading_derived}
+use Rattle.proof_cbor.specs.Internal.Reading.{is_memory, blob_of, blobs_of, texts_of, wholes_of, label_entries_of, five_parts, base_of, derived_of, base64_result, multibase_bytes, behind, item_of, item_behind, reading_base, reading_derived}
 use Rattle.cbor_core.proofs.Outcomes.{same_ok, ended, went_on, goes_on}
 use Rattle.proof_cbor.proofs.Inverses.{blob_found, blob_again, blobs_found, blobs_again, texts_found, texts_again, wholes_found, wholes_again, labels_found, labels_again, parts_found, parts_again, five_joined}
 
@@ -109,12 +109,12 @@ item_ok : (r : Result Item CborFault) (item : Item) → item_of r ≡ Ok item �
 item_ok (Ok i) item e = ap (λ (z : Item). Ok z) (same_ok i item e)
 item_ok (Err d) item e = absurd cc
 
-front_back : (header bytes rest : List ℕ) → take 3 bytes ≡ header → drop 3 bytes ≡ rest → bytes ≡ header ++ rest
+pub front_back : (header bytes rest : List ℕ) → take 3 bytes ≡ header → drop 3 bytes ≡ rest → bytes ≡ header ++ rest
 front_back header bytes rest f d =
     let same : take 3 bytes ++ drop 3 bytes ≡ header ++ rest = cc in
     sym (take-append-drop 3 bytes) ∙ same
 
-item_found : (header text bytes : List ℕ) (item : Item) → IsText text bytes → item_behind header bytes ≡ Ok item → SpellsBehind header item text
+pub item_found : (header text bytes : List ℕ) (item : Item) → IsText text bytes → item_behind header bytes ≡ Ok item → SpellsBehind header item text
 unfolding item_behind
 item_found header text bytes item t e =
     let a = went_on (behind header bytes) (λ (rest : List ℕ). item_of (reading rest)) item e in
@@ -125,13 +125,13 @@ item_found header text bytes item t e =
     let r : reading a.0 ≡ Ok item = item_ok (reading a.0) item a.2 in
     (count_of item, a.0, count_by a.0 (Ok item) small r, found_by a.0 (Ok item) small r, (subst IsBytes whole t.0, t.1 ∙ ap (λ (z : List ℕ). multibase_text z) whole))
 
-bytes_again : (text bytes : List ℕ) → IsText text bytes → multibase_bytes text ≡ Ok bytes
+pub bytes_again : (text bytes : List ℕ) → IsText text bytes → multibase_bytes text ≡ Ok bytes
 bytes_again text bytes t =
     let d : decode_of url_safe_no_pad (encode_of url_safe_no_pad bytes) ≡ Ok bytes = decode_of-encode_of url_safe_no_pad bytes refl t.0 in
     let e : multibase_bytes (multibase_text bytes) ≡ Ok bytes = ap base64_result d in
     ap multibase_bytes t.1 ∙ e
 
-item_again : (header rest : List ℕ) (item : Item) (count : ℕ) → length header ≡ 3 → count ≤ 100000 → Encodes 4 item count rest → item_behind header (header ++ rest) ≡ Ok item
+pub item_again : (header rest : List ℕ) (item : Item) (count : ℕ) → length header ≡ 3 → count ≤ 100000 → Encodes 4 item count rest → item_behind header (header ++ rest) ≡ Ok item
 unfolding item_behind
 item_again header rest item count three le s =
     let front : take 3 (header ++ rest) ≡ header = take_at header rest 3 three in

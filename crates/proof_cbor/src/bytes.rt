@@ -3,7 +3,8 @@
 ghost use Rattle.std.specs.Prelude.{◌≡◌, IfOk};
 ghost use Rattle.proof_cbor.specs.Values.{IsText};
 ghost use Rattle.cbor_core.specs.Internal.Results.{Gives};
-ghost use Rattle.proof_cbor.specs.Reading.{is_memory, multibase_bytes, item_behind};
+ghost use Rattle.cbor_core.specs.Internal.Reading.{reading};
+ghost use Rattle.proof_cbor.specs.Internal.Reading.{is_memory, multibase_bytes, item_of, item_behind};
 
 use crate::fault::ValueFault;
 use base64::DecodeAllocError;
@@ -26,8 +27,20 @@ pub fn bytes_in(alloc: Global, text: &str) -> Result<Vec<u8>, ValueFault>
     }
 }
 
+/// The item that all of the bytes are.
+#[tactic(auto, using(crate::proofs::RefusingTexts::item_steps))]
+fn item_from(alloc: Global, bytes: &[u8]) -> Result<Item, ValueFault>
+    ensures { Gives is_memory (λ x. x) result (item_of (reading bytes.now)) }
+{
+    match decode(alloc, bytes) {
+        Ok(item) => Ok(item),
+        Err(CborFault::Memory) => Err(ValueFault::Memory),
+        Err(fault) => Err(ValueFault::Cbor(fault)),
+    }
+}
+
 /// The item behind a header.
-#[tactic(auto, unfolding(crate::specs::Reading::item_behind))]
+#[tactic(auto, unfolding(crate::specs::Internal::Reading::item_behind))]
 pub fn item_in(alloc: Global, header: &[u8; 3], bytes: &[u8]) -> Result<Item, ValueFault>
     ensures { Gives is_memory (λ x. x) result (item_behind header.now bytes.now) }
 {
@@ -38,9 +51,5 @@ pub fn item_in(alloc: Global, header: &[u8; 3], bytes: &[u8]) -> Result<Item, Va
     if front != header.as_slice() {
         return Err(ValueFault::Header);
     }
-    match decode(alloc, rest) {
-        Ok(item) => Ok(item),
-        Err(CborFault::Memory) => Err(ValueFault::Memory),
-        Err(fault) => Err(ValueFault::Cbor(fault)),
-    }
+    item_from(alloc, rest)
 }

@@ -1,6 +1,6 @@
 //! Reading proof values (Data Integrity ECDSA Cryptosuites 1.0, 3.5.3 and 3.5.8).
 
-ghost use Rattle.std.specs.Prelude.{◌≡◌, ◌≤◌, true, map, IfOk, Ok};
+ghost use Rattle.std.specs.Prelude.{◌≡◌, ◌≢◌, ◌≤◌, true, map, IfOk, Result, Ok, Err};
 ghost use Rattle.cbor_core.specs.Writing.{count_of};
 ghost use Rattle.base_types.specs.Order.{rise};
 ghost use Rattle.proof_cbor.specs.declared.value.MapEntry.{MapEntry};
@@ -8,7 +8,11 @@ ghost use Rattle.proof_cbor.specs.declared.value.BaseValue.{BaseValue};
 ghost use Rattle.proof_cbor.specs.declared.value.DerivedValue.{DerivedValue};
 ghost use Rattle.proof_cbor.specs.Values.{base_item, derived_item, SpellsBase, SpellsDerived};
 ghost use Rattle.cbor_core.specs.Internal.Results.{Gives};
-ghost use Rattle.proof_cbor.specs.Reading.{is_memory, base_of, derived_of, reading_base, reading_derived};
+ghost use Rattle.cbor_core.specs.Refusals.{UnlessMemory};
+ghost use Rattle.proof_cbor.specs.declared.fault.ValueFault.{ValueFault};
+ghost use Rattle.proof_cbor.specs.declared.fault.ValueFault.TheVariants.{Memory};
+ghost use Rattle.proof_cbor.specs.Refusals.{ReadsBase, ReadsDerived};
+ghost use Rattle.proof_cbor.specs.Internal.Reading.{is_memory, base_of, derived_of};
 
 use crate::bytes::{bytes_in, item_in};
 use crate::fault::{Part, ValueFault};
@@ -20,7 +24,7 @@ use cbor_core::Item;
 use std::alloc::Global;
 
 /// The base value that an item is.
-#[tactic(auto, unfolding(crate::specs::Reading::base_of))]
+#[tactic(auto, unfolding(crate::specs::Internal::Reading::base_of))]
 fn base_in(alloc: Global, item: &Item) -> Result<BaseValue, ValueFault>
     ensures { Gives is_memory (λ x. x) result (base_of item.now) }
 {
@@ -40,7 +44,7 @@ fn base_in(alloc: Global, item: &Item) -> Result<BaseValue, ValueFault>
 }
 
 /// The derived value that an item is.
-#[tactic(auto, unfolding(crate::specs::Reading::derived_of))]
+#[tactic(auto, unfolding(crate::specs::Internal::Reading::derived_of))]
 fn derived_in(alloc: Global, item: &Item) -> Result<DerivedValue, ValueFault>
     ensures { Gives is_memory (λ x. x) result (derived_of item.now) }
 {
@@ -62,20 +66,18 @@ fn derived_in(alloc: Global, item: &Item) -> Result<DerivedValue, ValueFault>
     })
 }
 
-#[tactic(auto, unfolding(crate::specs::Reading::reading_base))]
 fn read_base(alloc: Global, text: &str) -> Result<BaseValue, ValueFault>
     ensures found { IfOk result (λ value. SpellsBase value text.now) }
-    ensures exact { Gives is_memory (λ x. x) result (reading_base text.now) }
+    ensures reads { result ≢ Err Memory → ReadsBase text.now result }
 {
     let bytes = bytes_in(alloc, text)?;
     let item = item_in(alloc, &BASE_HEADER, &bytes)?;
     base_in(alloc, &item)
 }
 
-#[tactic(auto, unfolding(crate::specs::Reading::reading_derived))]
 fn read_derived(alloc: Global, text: &str) -> Result<DerivedValue, ValueFault>
     ensures found { IfOk result (λ value. SpellsDerived value text.now) }
-    ensures exact { Gives is_memory (λ x. x) result (reading_derived text.now) }
+    ensures reads { result ≢ Err Memory → ReadsDerived text.now result }
 {
     let bytes = bytes_in(alloc, text)?;
     let item = item_in(alloc, &DERIVED_HEADER, &bytes)?;
@@ -90,11 +92,14 @@ pub fn decode_base(alloc: Global, text: &str) -> Result<BaseValue, ValueFault>
     ensures found { IfOk result (λ value. SpellsBase value text.now) }
     // It may be written: it keeps the limit on items.
     ensures count { IfOk result (λ value. count_of (base_item value) ≤ 100000) }
-    // What is spelled within the limits is read, unless memory runs out.
+    // What is spelled within the limits is read.
     ensures only { (value : BaseValue) → SpellsBase value text.now
-        → Gives is_memory (λ x. x) result (Ok value) }
-    // Which value, or which refusal, it is.
-    ensures exact { Gives is_memory (λ x. x) result (reading_base text.now) }
+        → UnlessMemory Memory (Ok value) result }
+    // The answer is what the text is: its value, or the fault with which it is refused.
+    ensures reads { result ≢ Err Memory → ReadsBase text.now result }
+    // There is no other answer.
+    ensures exact { (outcome : Result BaseValue ValueFault) → ReadsBase text.now outcome
+        → UnlessMemory Memory outcome result }
 {
     read_base(alloc, text)
 }
@@ -110,11 +115,14 @@ pub fn decode_derived(alloc: Global, text: &str) -> Result<DerivedValue, ValueFa
         (λ value. rise (map (λ (e : MapEntry). e.number) value.labels) ≡ true) }
     ensures indexes { IfOk result (λ value. rise value.indexes ≡ true) }
     ensures count { IfOk result (λ value. count_of (derived_item value) ≤ 100000) }
-    // What is spelled within the limits is read, unless memory runs out.
+    // What is spelled within the limits is read.
     ensures only { (value : DerivedValue) → SpellsDerived value text.now
-        → Gives is_memory (λ x. x) result (Ok value) }
-    // Which value, or which refusal, it is.
-    ensures exact { Gives is_memory (λ x. x) result (reading_derived text.now) }
+        → UnlessMemory Memory (Ok value) result }
+    // The answer is what the text is: its value, or the fault with which it is refused.
+    ensures reads { result ≢ Err Memory → ReadsDerived text.now result }
+    // There is no other answer.
+    ensures exact { (outcome : Result DerivedValue ValueFault) → ReadsDerived text.now outcome
+        → UnlessMemory Memory outcome result }
 {
     read_derived(alloc, text)
 }

@@ -7,7 +7,7 @@ ghost use Rattle.cbor_core.specs.Writing.{item_nesting, count_of, keys_rise, enc
 ghost use Rattle.base_types.specs.Order.{rise};
 ghost use Rattle.proof_cbor.specs.declared.value.MapEntry.{MapEntry};
 ghost use Rattle.proof_cbor.specs.Values.{multibase_text, base_item, derived_item, base_proof_bytes, derived_proof_bytes, CanWriteBase, CanWriteDerived, SpellsBase, SpellsDerived};
-ghost use Rattle.proof_cbor.specs.Reading.{reading_base, reading_derived};
+ghost use Rattle.proof_cbor.specs.Refusals.{ReadsBase, ReadsDerived};
 
 use crate::headers::{BASE_HEADER, DERIVED_HEADER};
 use crate::items::{item_of_base, item_of_derived};
@@ -77,7 +77,7 @@ pub fn encode_base(alloc: Global, value: &BaseValue) -> Result<Text, Memory>
     // It spells the value.
     ensures spelled { IfOk result (λ text. SpellsBase value.now text) }
     // It reads back as the value.
-    ensures reads_back { IfOk result (λ text. reading_base text ≡ Ok value.now) }
+    ensures reads_back { IfOk result (λ text. ReadsBase text (Ok value.now)) }
 {
     let bytes = bytes_of_base(alloc, value)?;
     text_in(alloc, &bytes)
@@ -94,7 +94,7 @@ pub fn encode_derived(alloc: Global, value: &DerivedValue) -> Result<Text, Memor
     // It spells the value.
     ensures spelled { IfOk result (λ text. SpellsDerived value.now text) }
     // It reads back as the value.
-    ensures reads_back { IfOk result (λ text. reading_derived text ≡ Ok value.now) }
+    ensures reads_back { IfOk result (λ text. ReadsDerived text (Ok value.now)) }
 {
     let bytes = bytes_of_derived(alloc, value)?;
     text_in(alloc, &bytes)

@@ -3,7 +3,7 @@
 ghost use Rattle.std.specs.Prelude.{◌≡◌};
 ghost use Rattle.std.specs.Option.{option_map, option_copied};
 ghost use Rattle.cbor_core.specs.declared.item.Item.{out-Item};
-ghost use Rattle.proof_cbor.specs.Reading.{blob_level, text_level, whole_level, list_level, map_level};
+ghost use Rattle.proof_cbor.specs.Internal.Reading.{blob_level, text_level, whole_level, list_level, map_level};
 
 use cbor_core::{Item, Pair};
 

@@ -4,7 +4,7 @@ ghost use Rattle.std.specs.Prelude.{◌≡◌, [], is_some, length};
 ghost use Rattle.std.specs.Option.{ok_or};
 ghost use Rattle.proof_cbor.specs.declared.fault.ValueFault.TheVariants.{Shape};
 ghost use Rattle.cbor_core.specs.Internal.Results.{Gives};
-ghost use Rattle.proof_cbor.specs.Reading.{is_memory, each_is, blob_kind, text_kind, whole_kind, entry_kind, digest_size, ones_from, blobs_of, texts_of, wholes_of, label_entries_of};
+ghost use Rattle.proof_cbor.specs.Internal.Reading.{is_memory, each_is, blob_kind, text_kind, whole_kind, entry_kind, digest_size, ones_from, blobs_of, texts_of, wholes_of, label_entries_of};
 
 use crate::fault::{Part, ValueFault};
 use crate::kinds::{blob_in, list_in, map_in, text_in, whole_in};

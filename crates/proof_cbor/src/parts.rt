@@ -3,7 +3,7 @@
 ghost use Rattle.std.specs.Prelude.{◌≡◌, ◌∷◌};
 ghost use Rattle.base_types.specs.Order.{rise};
 ghost use Rattle.cbor_core.specs.Internal.Results.{Gives};
-ghost use Rattle.proof_cbor.specs.Reading.{is_memory, one_of, blob_of, entry_kind, digest_size, five_parts};
+ghost use Rattle.proof_cbor.specs.Internal.Reading.{is_memory, one_of, blob_of, entry_kind, digest_size, five_parts};
 
 use crate::fault::{Part, ValueFault};
 use crate::kinds::{blob_in, list_in};

@@ -1,9 +1,13 @@
-use Rattle.proof_cbor.proofs.Spelled.{derived_only}
 use Rattle.proof_cbor.proofs.Making.{derived_labels, derived_indexes, derived_count}
+use Rattle.proof_cbor.proofs.RefusingTexts.{derived_exact}
+use Rattle.std.proofs.Common.{Ok}
 use Rattle.proof_cbor.proofs.decoding.decode_derived.Goals as goal
 
 pub returns-clause-only : goal.returns-clause-only
-returns-clause-only c = λ value s. derived_only c.args.text.now c.read_derived.result value s c.read_derived.ensures.exact
+returns-clause-only c = λ value s. derived_exact c.args.text.now c.read_derived.result (Ok value) c.read_derived.ensures.reads s
+
+pub returns-clause-exact : goal.returns-clause-exact
+returns-clause-exact c = λ outcome s. derived_exact c.args.text.now c.read_derived.result outcome c.read_derived.ensures.reads s
 
 pub returns-clause-labels : goal.returns-clause-labels
 returns-clause-labels c = derived_labels c.args.text.now c.read_derived.result c.read_derived.ensures.found

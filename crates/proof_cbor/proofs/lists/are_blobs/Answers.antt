@@ -1,6 +1,6 @@
 use Rattle.std.proofs.Common.{sym}
 use Rattle.std.specs.Prelude.{is_some}
-use Rattle.proof_cbor.specs.Reading.{blob_kind, each_is}
+use Rattle.proof_cbor.specs.Internal.Reading.{blob_kind, each_is}
 use Rattle.proof_cbor.proofs.Each.{all_more, all_stops, all_end}
 use Rattle.proof_cbor.proofs.lists.are_blobs.Goals as goal
 

@@ -1,6 +1,6 @@
 use Rattle.std.proofs.Common.{sym, ap}
 use Rattle.std.specs.Prelude.{is_some}
-use Rattle.proof_cbor.specs.Reading.{entry_of, entry_kind, each_is}
+use Rattle.proof_cbor.specs.Internal.Reading.{entry_of, entry_kind, each_is}
 use Rattle.std.specs.Option.{option_map}
 use Rattle.proof_cbor.proofs.Each.{all_more, all_stops, all_end}
 use Rattle.proof_cbor.proofs.lists.are_entries.Goals as goal

@@ -1,6 +1,6 @@
 use Rattle.std.proofs.Common.{◌≡◌, drop}
 use Rattle.std.specs.Prelude.{is_some}
-use Rattle.proof_cbor.specs.Reading.{each_is, entry_kind}
+use Rattle.proof_cbor.specs.Internal.Reading.{each_is, entry_kind}
 use Rattle.proof_cbor.proofs.lists.are_entries.Given as goal
 
 abbrev pub invariant-loop-pair : goal.invariant-loop-pair

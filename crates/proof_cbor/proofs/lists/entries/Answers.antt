@@ -1,6 +1,6 @@
 use Rattle.std.proofs.Common.{[]}
 use Rattle.std.proofs.lemmas.Result.{err_from_is_err_and}
-use Rattle.proof_cbor.specs.Reading.{ones_from, entry_kind, digest_size}
+use Rattle.proof_cbor.specs.Internal.Reading.{ones_from, entry_kind, digest_size}
 use Rattle.proof_cbor.proofs.Each.{ones_more, ones_fail, ones_end}
 use Rattle.proof_cbor.proofs.lists.entries.Goals as goal
 

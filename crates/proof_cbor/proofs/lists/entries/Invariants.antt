@@ -1,5 +1,5 @@
 use Rattle.std.proofs.Common.{◌≡◌, drop, []}
-use Rattle.proof_cbor.specs.Reading.{ones_from, entry_kind, digest_size}
+use Rattle.proof_cbor.specs.Internal.Reading.{ones_from, entry_kind, digest_size}
 use Rattle.proof_cbor.proofs.lists.entries.Given as goal
 
 abbrev pub invariant-loop-pair : goal.invariant-loop-pair

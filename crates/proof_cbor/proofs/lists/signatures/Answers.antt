@@ -1,6 +1,6 @@
 use Rattle.std.proofs.Common.{[], length}
 use Rattle.std.proofs.lemmas.Result.{err_from_is_err_and}
-use Rattle.proof_cbor.specs.Reading.{ones_from, blob_kind}
+use Rattle.proof_cbor.specs.Internal.Reading.{ones_from, blob_kind}
 use Rattle.proof_cbor.proofs.Each.{ones_more, ones_fail, ones_end}
 use Rattle.proof_cbor.proofs.lists.signatures.Goals as goal
 

@@ -1,5 +1,5 @@
 use Rattle.std.proofs.Common.{◌≡◌, drop, [], length}
-use Rattle.proof_cbor.specs.Reading.{ones_from, blob_kind}
+use Rattle.proof_cbor.specs.Internal.Reading.{ones_from, blob_kind}
 use Rattle.proof_cbor.proofs.lists.signatures.Given as goal
 
 abbrev pub invariant-loop-item : goal.invariant-loop-item

@@ -1,5 +1,5 @@
 use Rattle.std.proofs.Common.{refl, ap, sym, ◌∙◌, Some}
-use Rattle.proof_cbor.specs.Reading.{text_kind, each_is}
+use Rattle.proof_cbor.specs.Internal.Reading.{text_kind, each_is}
 use Rattle.proof_cbor.proofs.Each.{each_more, each_stops, each_end}
 use Rattle.proof_cbor.proofs.lists.texts.Goals as goal
 

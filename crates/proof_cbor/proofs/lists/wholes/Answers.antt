@@ -1,5 +1,5 @@
 use Rattle.std.proofs.Common.{refl, sym}
-use Rattle.proof_cbor.specs.Reading.{whole_kind, each_is}
+use Rattle.proof_cbor.specs.Internal.Reading.{whole_kind, each_is}
 use Rattle.proof_cbor.proofs.Each.{each_more, each_stops, each_end}
 use Rattle.proof_cbor.proofs.lists.wholes.Goals as goal
 

@@ -1,6 +1,6 @@
 use Rattle.std.proofs.Common.{◌≡◌, ◌++◌, drop}
 use Rattle.std.specs.Option.{option_map}
-use Rattle.proof_cbor.specs.Reading.{each_is, whole_kind}
+use Rattle.proof_cbor.specs.Internal.Reading.{each_is, whole_kind}
 use Rattle.proof_cbor.proofs.lists.wholes.Given as goal
 
 abbrev pub invariant-loop-item : goal.invariant-loop-item

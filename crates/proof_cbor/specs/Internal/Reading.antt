@@ -21,6 +21,7 @@ use Rattle.proof_cbor.specs.declared.value.BaseValue.{BaseValue}
 use Rattle.proof_cbor.specs.declared.value.DerivedValue.{DerivedValue}
 use Rattle.proof_cbor.specs.declared.value.MapEntry.{MapEntry}
 use Rattle.proof_cbor.specs.Values.{base_header, derived_header}
+use Rattle.proof_cbor.specs.Refusals.{Five}
 
 -- whether memory ran out
 abbrev pub is_memory : ValueFault → Bool
@@ -138,9 +139,6 @@ label_entries_of at n item = do
 -- ---- the whole
 
 -- the five parts of a list
-abbrev pub Five : Type 0
-Five = Item × Item × Item × Item × Item
-
 abbrev pub five_items : List Item → Option Five
 five_items (a ∷ b ∷ c ∷ d ∷ e ∷ []) = Some (a, b, c, d, e)
 five_items other = None

@@ -1,0 +1,180 @@
+-- A text is refused by the relation exactly where reading it ends with this fault.
+use Rattle.std.proofs.Common.{◌≡◌, ◌≢◌, ℕ, ◌+◌, ◌≤◌, ◌<◌, Bool, true, false, cond, eqb, List, [], ◌∷◌, ◌++◌, length, take, drop, Result, Ok, Err, refl, sym, ap, subst, ◌∙◌, inl, inr}
+use Rattle.std.specs.Prelude.{◌⊎◌}
+use Rattle.std.specs.Str.{bytes_eq}
+use Rattle.std.proofs.lemmas.Bool.{true≢false}
+use Rattle.std.proofs.lemmas.Slice.Eq.{bytes_eq-Decides}
+use Rattle.std.proofs.lemmas.List.{take-append-drop, get_or-drop, take_at, drop_at}
+use Rattle.base64.specs.Engines.{url_safe_no_pad}
+use Rattle.base64.specs.GeneralPurpose.{IsBytes, decode_of}
+use Rattle.base64.specs.declared.decode.DecodeError.{DecodeError}
+use Rattle.cbor_core.specs.declared.item.Item.{Item}
+use Rattle.cbor_core.specs.declared.fault.CborFault.{CborFault}
+use Rattle.cbor_core.specs.Internal.Results.{◌>>=◌, Unless, Gives, Fails}
+use Rattle.cbor_core.specs.Internal.Reading.{reading}
+use Rattle.cbor_core.specs.Refusals.{UnlessMemory, ReadsAs}
+use Rattle.cbor_core.proofs.Outcomes.{same_ok, same_err, took, stopped, ended, goes_on}
+use Rattle.cbor_core.proofs.Whole.{read_refused, refused_read, read_as}
+use Rattle.cbor_core.specs.declared.fault.CborFault.TheVariants as g
+use Rattle.proof_cbor.specs.declared.fault.ValueFault.{ValueFault}
+use Rattle.proof_cbor.specs.declared.fault.ValueFault.TheVariants as f
+use Rattle.proof_cbor.specs.declared.value.BaseValue.{BaseValue}
+use Rattle.proof_cbor.specs.declared.value.DerivedValue.{DerivedValue}
+use Rattle.proof_cbor.specs.Values.{base_header, derived_header, IsText, SpellsBase, SpellsDerived}
+use Rattle.proof_cbor.specs.Refusals.{Five, RefusesBaseParts, RefusesDerivedParts, RefusesFive, RefusesBytes, RefusesText, RefusesBase, RefusesDerived, ReadsBase, ReadsDerived}
+use Rattle.proof_cbor.specs.Internal.Reading.{is_memory, base_of, derived_of, base64_result, multibase_bytes, behind, item_of, item_behind, reading_base, reading_derived}
+use Rattle.proof_cbor.proofs.Refusing.{base_stops, base_refused, derived_stops, derived_refused}
+use Rattle.proof_cbor.proofs.Spelled.{bytes_again, item_again, item_found, front_back, base_read, derived_read, base_spelled, derived_spelled}
+
+-- ---- what reading refuses, the relation does
+
+no_base64 : (r : Result (List ℕ) DecodeError) (e : ValueFault) → base64_result r ≡ Err e → e ≡ f.NotMultibase
+no_base64 (Ok bytes) e h = absurd cc
+no_base64 (Err d) e h = sym (same_err f.NotMultibase e h)
+
+no_multibase : (text : List ℕ) (e : ValueFault) → multibase_bytes text ≡ Err e → e ≡ f.NotMultibase
+no_multibase [] e h = sym (same_err f.NotMultibase e h)
+no_multibase (c ∷ text) e h = elim (took (eqb c 117) (base64_result (decode_of url_safe_no_pad text)) (Err f.NotMultibase) (Err e) h) [
+  | inl p ↦ no_base64 (decode_of url_safe_no_pad text) e p.1
+  | inr p ↦ sym (same_err f.NotMultibase e p.1)
+]
+
+no_item : (r : Result Item CborFault) (e : ValueFault) → item_of r ≡ Err e → (d : CborFault) × (r ≡ Err d) × (e ≡ f.Cbor d)
+no_item (Ok item) e h = absurd cc
+no_item (Err d) e h = (d, refl, sym (same_err (f.Cbor d) e h))
+
+bytes_stop : (header : List ℕ) (Refuses : Five → ValueFault → Type 0) (bytes : List ℕ) (e : ValueFault) → length header ≡ 3 → IsBytes bytes → item_behind header bytes ≡ Err e → RefusesBytes header Refuses bytes e
+unfolding item_behind
+bytes_stop header Refuses bytes e three small h =
+    let rest_of : Result (List ℕ) ValueFault = Ok (drop 3 bytes) in
+    elim (stopped (behind header bytes) (λ (rest : List ℕ). item_of (reading rest)) e h) [
+      | inl p ↦ elim (took (bytes_eq (take 3 bytes) header) rest_of (Err f.Header) (Err e) p) [
+        | inl q ↦ absurd (cc q.1)
+        | inr q ↦ inl (
+          (λ rest is. true≢false (sym ((bytes_eq-Decides (take 3 bytes) header).1 (ap (take 3) is ∙ take_at header rest 3 three)) ∙ q.0)),
+          sym (same_err f.Header e q.1),
+        )
+      ]
+      | inr p ↦
+          let q = ended (bytes_eq (take 3 bytes) header) f.Header (drop 3 bytes) p.0 p.1 in
+          let whole : bytes ≡ header ++ p.0 = front_back header bytes p.0 ((bytes_eq-Decides (take 3 bytes) header).0 q.0) q.1 in
+          let fits : IsBytes p.0 = subst IsBytes q.1 (λ (i : ℕ). subst (λ (n : ℕ). n < 256) (sym (get_or-drop 3 bytes i 0)) (small (3 + i))) in
+          let d = no_item (reading p.0) e p.2 in
+          inr (p.0, whole, inl (d.0, read_refused p.0 d.0 fits d.1, d.2))
+    ]
+
+module _ (header : List ℕ) (three : length header ≡ 3) (Refuses : Five → ValueFault → Type 0) where
+  pub text_stops : (text : List ℕ) (e : ValueFault) → multibase_bytes text ≡ Err e → RefusesText header Refuses text e
+  text_stops text e h = inl ((λ bytes t. absurd (let both = sym (bytes_again text bytes t) ∙ h in cc)), no_multibase text e h)
+
+  pub item_stops : (text bytes : List ℕ) (e : ValueFault) → IsText text bytes → item_behind header bytes ≡ Err e → RefusesText header Refuses text e
+  item_stops text bytes e t h = inr (bytes, t, bytes_stop header Refuses bytes e three t.0 h)
+
+  pub parts_stop : (text bytes : List ℕ) (item : Item) (e : ValueFault) → IsText text bytes → item_behind header bytes ≡ Ok item → RefusesFive Refuses item e → RefusesText header Refuses text e
+  parts_stop text bytes item e t h r =
+      let s = item_found header text bytes item t h in
+      inr (header ++ s.1, s.4, inr (s.1, refl, inr (item, s.0, s.2, s.3, r)))
+
+-- ---- what the relation refuses, reading does
+
+module _ {V : Type 0} (header : List ℕ) (three : length header ≡ 3) (Refuses : Five → ValueFault → Type 0) (value_of : Item → Result V ValueFault) (refused : (item : Item) (e : ValueFault) → RefusesFive Refuses item e → value_of item ≡ Err e) where
+  header_missing : (bytes : List ℕ) (b : Bool) → bytes_eq (take 3 bytes) header ≡ b → ((rest : List ℕ) → bytes ≢ header ++ rest) → behind header bytes ≡ Err f.Header
+  header_missing bytes true is none = absurd (none (drop 3 bytes) (front_back header bytes (drop 3 bytes) ((bytes_eq-Decides (take 3 bytes) header).0 is) refl))
+  header_missing bytes false is none = rw is refl
+
+  header_there : (rest : List ℕ) → behind header (header ++ rest) ≡ Ok rest
+  header_there rest = rw (take_at header rest 3 three, drop_at header rest 3 three, (bytes_eq-Decides header header).1 refl) refl
+
+  bytes_refused : (bytes : List ℕ) (e : ValueFault) → RefusesBytes header Refuses bytes e → (item_behind header bytes >>= value_of) ≡ Err e
+  unfolding item_behind
+  bytes_refused bytes e (inl s) = rw (header_missing bytes (bytes_eq (take 3 bytes) header) refl s.0, s.1) refl
+  bytes_refused bytes e (inr s) = elim (s.2) [
+    | inl r ↦ rw (s.1, header_there s.0, refused_read s.0 r.0 r.1, r.2) refl
+    | inr r ↦ rw s.1 (goes_on (item_behind header (header ++ s.0)) value_of r.0 (item_again header s.0 r.0 r.1 three r.2 r.3) ∙ refused r.0 e r.4)
+  ]
+
+-- ---- what a text is
+
+-- it has bytes and is read so, or it has none
+abbrev pub IsSeen : {A : Type 0} → List ℕ → Result A ValueFault → Result A ValueFault → Type 0
+IsSeen text read outcome = (((bytes : List ℕ) × IsText text bytes) × (read ≡ outcome)) ⊎ (((bytes : List ℕ) → IsText text bytes → ⊥) × (outcome ≡ Err f.NotMultibase))
+
+seen_once : {A : Type 0} (text : List ℕ) (read r s : Result A ValueFault) → IsSeen text read r → IsSeen text read s → r ≡ s
+seen_once text read r s (inl x) (inl y) = sym x.1 ∙ y.1
+seen_once text read r s (inl x) (inr y) = absurd (y.0 x.0.0 x.0.1)
+seen_once text read r s (inr x) (inl y) = absurd (x.0 y.0.0 y.0.1)
+seen_once text read r s (inr x) (inr y) = x.1 ∙ sym y.1
+
+base_seen : (text : List ℕ) (r : Result BaseValue ValueFault) → ReadsBase text r → IsSeen text (reading_base text) r
+unfolding reading_base
+base_seen text (Ok value) s = inl ((base_header ++ s.spelled.1, s.spelled.4), base_read text value s)
+base_seen text (Err e) (inl s) = inr (s.0, ap (λ (d : ValueFault). Err d) s.1)
+base_seen text (Err e) (inr s) = inl ((s.0, s.1), goes_on (multibase_bytes text) _ s.0 (bytes_again text s.0 s.1) ∙ bytes_refused base_header refl RefusesBaseParts base_of base_refused s.0 e s.2)
+
+derived_seen : (text : List ℕ) (r : Result DerivedValue ValueFault) → ReadsDerived text r → IsSeen text (reading_derived text) r
+unfolding reading_derived
+derived_seen text (Ok value) s = inl ((derived_header ++ s.spelled.1, s.spelled.4), derived_read text value s)
+derived_seen text (Err e) (inl s) = inr (s.0, ap (λ (d : ValueFault). Err d) s.1)
+derived_seen text (Err e) (inr s) = inl ((s.0, s.1), goes_on (multibase_bytes text) _ s.0 (bytes_again text s.0 s.1) ∙ bytes_refused derived_header refl RefusesDerivedParts derived_of derived_refused s.0 e s.2)
+
+-- a text is one thing as a base value, and as a derived value
+pub one_base : (text : List ℕ) (r s : Result BaseValue ValueFault) → ReadsBase text r → ReadsBase text s → r ≡ s
+one_base text r s x y = seen_once text (reading_base text) r s (base_seen text r x) (base_seen text s y)
+
+pub one_derived : (text : List ℕ) (r s : Result DerivedValue ValueFault) → ReadsDerived text r → ReadsDerived text s → r ≡ s
+one_derived text r s x y = seen_once text (reading_derived text) r s (derived_seen text r x) (derived_seen text s y)
+
+-- ---- what a call answers
+
+not_memory : (e : ValueFault) → e ≢ f.Memory → is_memory e ≡ false
+not_memory f.Memory ne = absurd (ne refl)
+not_memory f.NotMultibase ne = refl
+not_memory f.Header ne = refl
+not_memory (f.Cbor d) ne = refl
+not_memory (f.Shape at) ne = refl
+not_memory (f.Length at) ne = refl
+not_memory f.Indexes ne = refl
+
+-- a call that gave up, and not for memory, gave up as reading does
+pub fails_as : {A B : Type 0} (e : ValueFault) (read : Result A ValueFault) (result : Result B ValueFault) → result ≡ Err e → Fails is_memory e read → result ≢ Err f.Memory → read ≡ Err e
+fails_as e read result is h ne = subst (λ (b : Bool). Unless b (read ≡ Err e)) (not_memory e (λ same. ne (is ∙ (λ i. Err (same i))))) h
+
+pub base_reads : (text bytes : List ℕ) (item : Item) (result : Result BaseValue ValueFault) → IsText text bytes → item_behind base_header bytes ≡ Ok item → Gives is_memory (λ x. x) result (base_of item) → result ≢ Err f.Memory → ReadsBase text result
+base_reads text bytes item (Ok value) t i g ne = base_spelled text bytes item value t i g
+base_reads text bytes item (Err e) t i g ne = parts_stop base_header refl RefusesBaseParts text bytes item e t i (base_stops item e (fails_as e (base_of item) (Err e) refl g ne))
+
+pub derived_reads : (text bytes : List ℕ) (item : Item) (result : Result DerivedValue ValueFault) → IsText text bytes → item_behind derived_header bytes ≡ Ok item → Gives is_memory (λ x. x) result (derived_of item) → result ≢ Err f.Memory → ReadsDerived text result
+derived_reads text bytes item (Ok value) t i g ne = derived_spelled text bytes item value t i g
+derived_reads text bytes item (Err e) t i g ne = parts_stop derived_header refl RefusesDerivedParts text bytes item e t i (derived_stops item e (fails_as e (derived_of item) (Err e) refl g ne))
+
+-- the answer of a call that is what the text is
+pub base_exact : (text : List ℕ) (result outcome : Result BaseValue ValueFault) → (result ≢ Err f.Memory → ReadsBase text result) → ReadsBase text outcome → UnlessMemory f.Memory outcome result
+base_exact text result outcome reads s ne = one_base text result outcome (reads ne) s
+
+pub derived_exact : (text : List ℕ) (result outcome : Result DerivedValue ValueFault) → (result ≢ Err f.Memory → ReadsDerived text result) → ReadsDerived text outcome → UnlessMemory f.Memory outcome result
+derived_exact text result outcome reads s ne = one_derived text result outcome (reads ne) s
+
+-- ---- an item as `decode` answers it
+
+pub read_ok : (bytes : List ℕ) (result : Result Item CborFault) (item : Item) → (result ≢ Err g.Memory → ReadsAs bytes result) → result ≡ Ok item → item_of (reading bytes) ≡ Ok item
+read_ok bytes (Ok i) item reads is = ap item_of (read_as bytes (Ok i) (reads (λ same. absurd cc))) ∙ ap (λ (x : Item). Ok x) (same_ok i item is)
+read_ok bytes (Err d) item reads is = absurd cc
+
+pub read_err : (bytes : List ℕ) (result : Result Item CborFault) (e : CborFault) → (result ≢ Err g.Memory → ReadsAs bytes result) → result ≡ Err e → e ≢ g.Memory → item_of (reading bytes) ≡ Err (f.Cbor e)
+read_err bytes result e reads is ne =
+    let other : result ≢ Err g.Memory = λ same. ne (same_err e g.Memory (sym is ∙ same)) in
+    ap item_of (read_as bytes result (reads other) ∙ is)
+
+pub ruleset item_steps = (read_ok, read_err)
+
+pub base_text_reads : (text : List ℕ) (e : ValueFault) (result : Result BaseValue ValueFault) → result ≡ Err e → Fails is_memory e (multibase_bytes text) → result ≢ Err f.Memory → ReadsBase text result
+base_text_reads text e result is h ne = subst (ReadsBase text) (sym is) (text_stops base_header refl RefusesBaseParts text e (fails_as e (multibase_bytes text) result is h ne))
+
+pub base_item_reads : (text bytes : List ℕ) (e : ValueFault) (result : Result BaseValue ValueFault) → result ≡ Err e → IsText text bytes → Fails is_memory e (item_behind base_header bytes) → result ≢ Err f.Memory → ReadsBase text result
+base_item_reads text bytes e result is t h ne = subst (ReadsBase text) (sym is) (item_stops base_header refl RefusesBaseParts text bytes e t (fails_as e (item_behind base_header bytes) result is h ne))
+
+pub derived_text_reads : (text : List ℕ) (e : ValueFault) (result : Result DerivedValue ValueFault) → result ≡ Err e → Fails is_memory e (multibase_bytes text) → result ≢ Err f.Memory → ReadsDerived text result
+derived_text_reads text e result is h ne = subst (ReadsDerived text) (sym is) (text_stops derived_header refl RefusesDerivedParts text e (fails_as e (multibase_bytes text) result is h ne))
+
+pub derived_item_reads : (text bytes : List ℕ) (e : ValueFault) (result : Result DerivedValue ValueFault) → result ≡ Err e → IsText text bytes → Fails is_memory e (item_behind derived_header bytes) → result ≢ Err f.Memory → ReadsDerived text result
+derived_item_reads text bytes e result is t h ne = subst (ReadsDerived text) (sym is) (item_stops derived_header refl RefusesDerivedParts text bytes e t (fails_as e (item_behind derived_header bytes) result is h ne))
