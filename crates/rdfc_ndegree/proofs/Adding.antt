@@ -38,6 +38,7 @@ pub groups-new : (gs new : List NodeGroup) (h : HashedNode) (g : NodeGroup) → 
 groups-new gs new h g ends is hash members =
     ap (map group_in) is ∙ map-append group_in gs (g ∷ []) ∙ (λ i. map group_in gs ++ record { hash = hash i; members = members i } ∷ []) ∙ sym (added-new (map group_in gs) (node_hash h) ends)
 
+-- where group k is the last, whether the last group has the hash is whether group k has it
 pub ends_with-last : (gs : List NodeGroup) (hash : List ℕ) (k : ℕ) (g : NodeGroup) → k + 1 ≡ length gs → g ≡ get_or gs k g → last_has_hash (map group_in gs) hash ≡ bytes_eq g.hash hash
 ends_with-last [] hash k g last is = absurd (omega arith)
 ends_with-last (f ∷ []) hash zero g last is = ap (λ (e : NodeGroup). bytes_eq e.hash hash) (sym is)
@@ -45,6 +46,7 @@ ends_with-last (f ∷ []) hash (suc k) g last is = absurd (omega arith)
 ends_with-last (f ∷ e ∷ gs) hash zero g last is = absurd (omega arith)
 ends_with-last (f ∷ e ∷ gs) hash (suc k) g last is = ends_with-last (e ∷ gs) hash k g (omega arith) is
 
+-- where there are no groups, no last one has the hash
 pub ends_with-none : (gs : List NodeGroup) (hash : List ℕ) → length gs ≡ 0 → last_has_hash (map group_in gs) hash ≡ false
 ends_with-none [] hash none = refl
 ends_with-none (g ∷ gs) hash none = absurd (omega arith)

@@ -24,6 +24,7 @@ IsAgreed o p = (o.tie ≡ p.tie) × (o.tie ≡ false → (o.hash ≡ p.hash) × 
 abbrev pub CallsAgree : {B : Type 0} → Calls B → Calls B → Type 0
 CallsAgree {B} calls others = (n : B) (i : List B) (o p : Outcome B) → calls n i o → others n i p → IsAgreed o p
 
+-- of two outcomes that agree, the second agrees with the first too
 pub IsAgreed-sym : {B : Type 0} (o p : Outcome B) → IsAgreed o p → IsAgreed p o
 IsAgreed-sym o p a = (sym a.0, λ e. let b = a.1 (a.0 ∙ e) in (sym b.0, sym b.1))
 
@@ -240,6 +241,7 @@ module _ {B : Type 0} (R S : List B → Trail B → Type 0) (alike : (p : List B
         issuer_is = ap (λ (z : Choice B). z.issuer) k.is ∙ f.issuer_is ∙ sym (ap (λ (z : Choice B). z.issuer) l.is);
       }
 
+-- two choices for one group agree, where the trails of each arrangement are alike
 pub IsChoice-agrees : {B : Type 0} (R S : List B → Trail B → Type 0) → ((p : List B) (t u : Trail B) → R p t → S p u → Alike t u) → (members : List B) (x y : Choice B) → IsChoice R members x → IsChoice S members y → ChoicesAgree x y
 IsChoice-agrees R S alike members x y k l = (
   same_tests x.tie y.tie (λ e. (choice_follows R S alike members x y k l e).no_tie) (λ e. (choice_follows S R (λ p t u s r. Alike-sym u t (alike p u t r s)) members y x l k e).no_tie),
@@ -299,11 +301,13 @@ module _ {B : Type 0} (v : Nodes B) (c : List B) (calls others : Calls B) (agree
 
 -- ---- n-degree calls
 
+-- outcomes for one node and issuer agree, however many calls each may have open at once
 pub IsNDegreeWithin-agrees : {B : Type 0} (v : Nodes B) (c : List B) (k l : ℕ) → CallsAgree (IsNDegreeWithin v c k) (IsNDegreeWithin v c l)
 IsNDegreeWithin-agrees v c zero l = λ n i o p d e. absurd d
 IsNDegreeWithin-agrees v c (suc k) zero = λ n i o p d e. absurd e
 IsNDegreeWithin-agrees v c (suc k) (suc l) = IsCall-agrees v c (IsNDegreeWithin v c k) (IsNDegreeWithin v c l) (IsNDegreeWithin-agrees v c k l)
 
+-- two outcomes that an n-degree call may give for one node and issuer agree
 pub IsNDegree-agrees : {B : Type 0} {v : Nodes B} {c : List B} {n : B} {i : List B} {o p : Outcome B} → IsNDegree v c n i o → IsNDegree v c n i p → IsAgreed o p
 IsNDegree-agrees {v = v} {c = c} {n = n} {i = i} {o = o} {p = p} d e = IsNDegreeWithin-agrees v c d.within e.within n i o p d.call e.call
 

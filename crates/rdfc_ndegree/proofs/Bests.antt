@@ -27,6 +27,7 @@ apart path other least below not = go (bytes_eq other path) refl
 many : (n : ℕ) → nat_lt 1 (min n (2 ^ 64 - 1)) ≡ nat_lt 1 n
 many n = grind (arith, nat_tests)
 
+-- where there is a least path so far, comparing a path with it says how that path stands to it
 pub place_of : (least path : List ℕ) (sharing : ℕ) (o : Ordering) → 0 < sharing → o ≡ slice_cmp nat_cmp path least → IsPlaceOf least sharing path o
 place_of least path sharing Less some e =
     let b : text_cmp least path ≡ Greater = nat_list_cmp_total.antisymm least path ∙ ap ordering_reverse (sym e) in

@@ -159,6 +159,7 @@ module _ {B : Type 0} (same : B → B → Bool) (equal : (x y : B) → (same x y
   branches-differ zero left = AllDiffer-cons [] [] (λ m. Contains-nil [] m) AllDiffer-nil
   branches-differ (suc n) left = differ_along (λ m. branches same n (drop_one same m left)) (λ m. branches-differ n (drop_one same m left)) (each_once same left) (each_once-differ left)
 
+-- the branches of all members are their arrangements: each distinct sequence, once
 pub branches-are : {B : Type 0} {v : Nodes B} → AreNodes v → (members : List B) → AreArrangements members (branches v.same (length members) members)
 branches-are {B} {v} laws members = record {
   differ = branches-differ v.same laws.equal (length members) members;

@@ -26,6 +26,7 @@ option_cases : {X Y : Type 0} (o : Option X) (f : X → Y) (y : Y) → option_ma
 option_cases None f y e = absurd (cc)
 option_cases (Some x) f y e = (x, refl, cc)
 
+-- at the number of a text stands that text
 pub number-get : (names : List (List ℕ)) (text : List ℕ) (k : ℕ) → number_among names text ≡ Some k → slice_get names k ≡ Some text
 number-get [] text k e = absurd (cc)
 number-get (name ∷ names) text k e = go (bytes_eq text name) refl e (number-get names text)
@@ -36,6 +37,7 @@ number-get (name ∷ names) text k e = go (bytes_eq text name) refl e (number-ge
         subst (λ j. slice_get (name ∷ names) j ≡ Some text) zeroth (ap Some (sym ((bytes_eq-Decides text name).0 same)))
     go false other e rest = let j = option_cases (number_among names text) suc k e in subst (λ j. slice_get (name ∷ names) j ≡ Some text) j.2 (rest j.0 j.1)
 
+-- the number of a text is less than the count of names
 pub number-below : (names : List (List ℕ)) (text : List ℕ) (k : ℕ) → number_among names text ≡ Some k → k < length names
 number-below [] text k e = absurd (cc)
 number-below (name ∷ names) text k e = go (bytes_eq text name) e (number-below names text)
@@ -44,6 +46,7 @@ number-below (name ∷ names) text k e = go (bytes_eq text name) e (number-below
     go true e rest = let zeroth : 0 ≡ k = cc in omega arith
     go false e rest = let j = option_cases (number_among names text) suc k e in let below = rest j.0 j.1 in let is = j.2 in omega arith
 
+-- a text that is one of the names has a number
 pub number-there : (names : List (List ℕ)) (text : List ℕ) → Contains names text → (k : ℕ) × (number_among names text ≡ Some k)
 number-there [] text c = absurd (Contains-nil text c)
 number-there (name ∷ names) text c = go (bytes_eq text name) refl (number-there names text) (Contains-cons_cases name names text c)
@@ -53,9 +56,11 @@ number-there (name ∷ names) text c = go (bytes_eq text name) refl (number-ther
     go false other rest (inl e) = absurd (false≢true (sym other ∙ (bytes_eq-Decides text name).1 (sym e)))
     go false other rest (inr d) = let k = rest d in (suc k.0, ap (option_map suc) k.1)
 
+-- a text without a number is none of the names
 pub number-None : (names : List (List ℕ)) (text : List ℕ) → number_among names text ≡ None → Contains names text → ⊥
 number-None names text e c = let k = number-there names text c in let both : None ≡ Some k.0 = sym e ∙ k.1 in absurd (cc)
 
+-- a text with a number is one of the names
 pub number-Some : (names : List (List ℕ)) (text : List ℕ) (k : ℕ) → number_among names text ≡ Some k → Contains names text
 number-Some names text k e = got names k (number-get names text k e)
   where
@@ -66,6 +71,7 @@ number-Some names text k e = got names k (number-get names text k e)
 
 -- ---- rows that are put in
 
+-- with a row put at the end, its name comes after those of the rows
 pub names-append : (rows : List NodeRow) (row : NodeRow) → names_of (rows ++ row ∷ []) ≡ names_of rows ++ row.blank ∷ []
 names-append rows row = map-append (λ (r : NodeRow). r.blank) rows (row ∷ [])
 
@@ -90,6 +96,7 @@ with_rows-kept : (rows : List NodeRow) (hs : List BlankHash) (x : List ℕ) → 
 with_rows-kept rows [] x c = c
 with_rows-kept rows (h ∷ hs) x c = with_rows-kept (with_row rows h) hs x (with_row-kept rows h x c)
 
+-- each of the unused names has a row once rows for them are put in
 pub others-named : (rows : List NodeRow) (others : List (List ℕ)) → AllByRecursion (Contains (names_of (with_rows rows (map unused_name others)))) others
 others-named rows [] = tt
 others-named rows (other ∷ others) =
@@ -104,21 +111,25 @@ more-nothing row = let e = append-nil row.related in λ i. record { blank = row.
 more-more : (row : NodeRow) (rs ss : List Related) → with_related (with_related row rs) ss ≡ with_related row (rs ++ ss)
 more-more row rs ss = let e = append_assoc row.related rs ss in λ i. record { blank = row.blank; first = row.first; related = e i }
 
+-- a row that gets no related nodes leaves the rows as they are
 pub related_at-nothing : (rows : List NodeRow) (n : ℕ) → relate_row rows n [] ≡ rows
 related_at-nothing [] n = refl
 related_at-nothing (row ∷ rows) zero = ap (λ r. r ∷ rows) (more-nothing row)
 related_at-nothing (row ∷ rows) (suc n) = ap (λ rs. row ∷ rs) (related_at-nothing rows n)
 
+-- a row that gets related nodes twice gets the one list and then the other
 pub related_at-related_at : (rows : List NodeRow) (n : ℕ) (rs ss : List Related) → relate_row (relate_row rows n rs) n ss ≡ relate_row rows n (rs ++ ss)
 related_at-related_at [] n rs ss = refl
 related_at-related_at (row ∷ rows) zero rs ss = ap (λ r. r ∷ rows) (more-more row rs ss)
 related_at-related_at (row ∷ rows) (suc n) rs ss = ap (λ rs. row ∷ rs) (related_at-related_at rows n rs ss)
 
+-- related nodes for a row past the last one change nothing
 pub related_at-past : (rows : List NodeRow) (n : ℕ) (rs : List Related) → length rows ≤ n → relate_row rows n rs ≡ rows
 related_at-past [] n rs le = refl
 related_at-past (row ∷ rows) zero rs le = absurd (omega arith)
 related_at-past (row ∷ rows) (suc n) rs le = ap (λ rs. row ∷ rs) (related_at-past rows n rs (omega arith))
 
+-- a row that gets related nodes leaves the names of the rows as they are
 pub names-related_at : (rows : List NodeRow) (n : ℕ) (rs : List Related) → names_of (relate_row rows n rs) ≡ names_of rows
 names-related_at [] n rs = refl
 names-related_at (row ∷ rows) zero rs = refl
@@ -240,6 +251,7 @@ gets-relate rows p k =
     let d : Gets rows two k (cond (is_at k p.subject || is_at k p.object) (related_nodes k p) []) = subst (Gets rows two k) first (gets-more rows one two k _ _ a b) in
     subst (Gets rows (relate_parts rows p) k) second (gets-more rows two (relate_parts rows p) k _ _ d c)
 
+-- row k gets, from each statement in turn, what that statement gives to node k
 pub gets-all : (rows : List NodeRow) (ps : List Parts) (k : ℕ) → slice_get (relate_all rows ps) k ≡ option_map (λ (r : NodeRow). with_related r (flat_map (given k) ps)) (slice_get rows k)
 gets-all rows [] k = gets-nothing rows k
 gets-all rows (p ∷ ps) k = gets-more rows (relate_parts rows p) (relate_all (relate_parts rows p) ps) k (given k p) (flat_map (given k) ps) (gets-relate rows p k) (gets-all (relate_parts rows p) ps k)
@@ -254,6 +266,7 @@ names-if : (t : Bool) (rows : List NodeRow) (o : Option ℕ) (p : Parts) → nam
 names-if true rows o p = refl
 names-if false rows o p = names-node rows o p
 
+-- relating the nodes of all statements leaves the names of the rows as they are
 pub names-all : (rows : List NodeRow) (ps : List Parts) → names_of (relate_all rows ps) ≡ names_of rows
 names-all rows [] = refl
 names-all rows (p ∷ ps) =
@@ -266,9 +279,11 @@ names-all rows (p ∷ ps) =
 
 -- ---- one node pushed to the row of another
 
+-- a position that holds no node gives the row of n nothing
 pub push-None : (rows : List NodeRow) (n : ℕ) (position : Position) (predicate : List ℕ) (o : Option ℕ) → o ≡ None → rows ≡ relate_row rows n (related_nodes_at n position predicate o)
 push-None rows n position predicate o e = sym (ap (λ o. relate_row rows n (related_nodes_at n position predicate o)) e ∙ related_at-nothing rows n)
 
+-- a position that holds n itself gives the row of n nothing
 pub push-same : (rows : List NodeRow) (n m : ℕ) (position : Position) (predicate : List ℕ) (o : Option ℕ) → o ≡ Some m → m ≡ n → rows ≡ relate_row rows n (related_nodes_at n position predicate o)
 push-same rows n m position predicate o e same =
     let t : (m == n) ≡ true = (Decides-eqb m n).1 same in
@@ -279,6 +294,7 @@ related_at-set [] n row rs within e = absurd (omega arith)
 related_at-set (r ∷ rows) zero row rs within e = ap (λ z. with_related z rs ∷ rows) e
 related_at-set (r ∷ rows) (suc n) row rs within e = ap (λ ls. r ∷ ls) (related_at-set rows n row rs (omega arith) e)
 
+-- putting another node at the end of the row of n is what its position gives to that row
 pub push-other : (rows : List NodeRow) (n m : ℕ) (position : Position) (predicate : List ℕ) (o : Option ℕ) (row : NodeRow) (pushed : List Related) (new : List NodeRow) → o ≡ Some m → (m ≡ n → ⊥) → n < length rows → row ≡ get_or rows n row → pushed ≡ row.related ++ record { position = position; predicate = predicate; node = m } ∷ [] → new ≡ set rows n record { blank = row.blank; first = row.first; related = pushed } → new ≡ relate_row rows n (related_nodes_at n position predicate o)
 push-other rows n m position predicate o row pushed new e other within at is made =
     let t : (m == n) ≡ false = apart (m == n) refl in
@@ -290,6 +306,7 @@ push-other rows n m position predicate o row pushed new e other within at is mad
     apart true f = absurd (other ((Decides-eqb m n).0 f))
     apart false f = refl
 
+-- what subject, object and graph give to a node's row, in turn, is what its statement gives
 pub push-three : (rows one two three : List NodeRow) (n : ℕ) (o : Option ℕ) (p : Parts) → o ≡ Some n → one ≡ relate_row rows n (related_nodes_at n position.Subject p.predicate p.subject) → two ≡ relate_row one n (related_nodes_at n position.Object p.predicate p.object) → three ≡ relate_row two n (related_nodes_at n position.Graph p.predicate p.graph) → three ≡ relate_node rows o p
 push-three rows one two three n o p e a b c =
     let s = related_nodes_at n position.Subject p.predicate p.subject in

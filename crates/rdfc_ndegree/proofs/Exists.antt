@@ -245,6 +245,7 @@ unfoldable pub put_result : {B : Type 0} → Outcome B → List (Outcome B) → 
 put_result o [] = o ∷ []
 put_result o (p ∷ ps) = cond (is_upto o.hash p.hash) (o ∷ (p ∷ ps)) (p ∷ put_result o ps)
 
+-- results with one more put in are that one and the others, in some order
 pub put_result-permutation : {B : Type 0} (o : Outcome B) (ps : List (Outcome B)) → IsPermutation (o ∷ ps) (put_result o ps)
 unfolding put_result
 put_result-permutation o [] = IsPermutation-refl (o ∷ [])
@@ -253,6 +254,7 @@ put_result-permutation o (p ∷ ps) =
     let later : IsPermutation (o ∷ (p ∷ ps)) (p ∷ put_result o ps) = IsPermutation-trans (o ∷ (p ∷ ps)) (p ∷ (o ∷ ps)) (p ∷ put_result o ps) moved (IsPermutation-cons p (o ∷ ps) (put_result o ps) (put_result-permutation o ps)) in
     cond_both (is_upto o.hash p.hash) (o ∷ (p ∷ ps)) (p ∷ put_result o ps) (IsPermutation (o ∷ (p ∷ ps))) (λ _. IsPermutation-refl (o ∷ (p ∷ ps))) (λ _. later)
 
+-- results in hash order stay so with one more put in
 pub put_result-order : {B : Type 0} (o : Outcome B) (ps : List (Outcome B)) → InHashOrder ps → InHashOrder (put_result o ps)
 unfolding put_result
 put_result-order {B} o [] up = (All-nil (λ (q : Outcome B). is_upto o.hash q.hash ≡ true), tt)

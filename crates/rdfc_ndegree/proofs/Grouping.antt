@@ -154,6 +154,7 @@ module _ {B : Type 0} where
 with-kept : (t : List ℕ) (xs : List HashedNode) → filter (λ (h : NodeHash ℕ). bytes_eq h.hash t) (map node_hash xs) ≡ map node_hash (filter (λ (h : HashedNode). bytes_eq h.hash t) xs)
 with-kept t xs = filter-map_each node_hash (λ (h : NodeHash ℕ). bytes_eq h.hash t) xs
 
+-- nodes have the same groups after a stable sort by hash
 pub grouped-stable : (xs ys : List HashedNode) → IsPermutation xs ys → IsStableByKey (λ (h : HashedNode). h.hash) text_cmp xs ys → groups_by_hash (map node_hash ys) ≡ groups_by_hash (map node_hash xs)
 grouped-stable xs ys moved stable = grouped-alike (map node_hash ys) (map node_hash xs) same each
   where
@@ -180,6 +181,7 @@ all-kept : (P : NodeHash ℕ → Type 0) (xs : List HashedNode) → AllByRecursi
 all-kept P [] all = tt
 all-kept P (x ∷ xs) all = (all.0, all-kept P xs all.1)
 
+-- of nodes in hash order, the next one added to the groups of the first k gives those of k + 1
 pub grouped-next : (ys : List HashedNode) (k : ℕ) (h d : HashedNode) → k < length ys → h ≡ get_or ys k d → IsSortedByKey (λ (x : HashedNode). x.hash) text_cmp ys → add_to_groups (groups_by_hash (map node_hash (take k ys))) (node_hash h) ≡ groups_by_hash (map node_hash (take (k + 1) ys))
 grouped-next ys k h d in' at up =
     let is : h ≡ get_or ys k h = at ∙ get_or_default ys k d h in' in

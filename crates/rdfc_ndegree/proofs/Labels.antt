@@ -168,6 +168,7 @@ if_alone-differ [] = AllDiffer-nil
 if_alone-differ (n ∷ []) = AllDiffer-cons n [] (λ m. Contains-nil n m) AllDiffer-nil
 if_alone-differ (n ∷ m ∷ ns) = AllDiffer-nil
 
+-- a node that is alone in its group is a member of one of the groups
 pub alone-member : {B : Type 0} (gs : List (Group B)) (x : B) → Contains (alone gs) x → (g : Group B) × Contains gs g × Contains g.members x
 alone-member [] x k = absurd (Contains-nil x k)
 alone-member (g ∷ gs) x k =

@@ -18,12 +18,15 @@ use Rattle.rdfc_ndegree.specs.Datasets.{occurrence, occurrences_at, occurrences_
 use Rattle.rdfc_ndegree.proofs.Membership.{Contains-from_filter, Contains-from_flat_map}
 use Rattle.rdfc_ndegree.proofs.Branching.{each_once-from, each_once-has, each_once-differ}
 
+-- the test of blank nodes says true just where they are equal
 pub same_blank-equal : (x y : Blank) → (same_blank x y ≡ true) ↔ (x ≡ y)
 same_blank-equal x y = (same_blank-true x y, λ e. subst (λ (z : Blank). same_blank x z ≡ true) e (same_blank-itself x))
 
+-- a blank node stands in the dataset just where it is listed
 pub blanks-all : (q : List Statement) (b : Blank) → StandsIn q b ↔ Contains (blanks q) b
 blanks-all q b = (each_once-has same_blank same_blank-equal (flat_map blanks_of q) b, each_once-from same_blank same_blank-equal (flat_map blanks_of q) b)
 
+-- no blank node of a dataset is listed twice
 pub AllDiffer-blanks : (q : List Statement) → AllDiffer (blanks q)
 AllDiffer-blanks q = each_once-differ same_blank same_blank-equal (flat_map blanks_of q)
 
@@ -43,11 +46,13 @@ in_statement n s o k =
     (Contains-append_cases (occurrences_at n position.Object (iri_text s.predicate) (blanks_of_term s.object)) (occurrences_at n position.Graph (iri_text s.predicate) (blanks_of_graph s.graph)) o l)))
     (Contains-append_cases (occurrences_at n position.Subject (iri_text s.predicate) (blanks_of_term s.subject)) (occurrences_at n position.Object (iri_text s.predicate) (blanks_of_term s.object) ++ occurrences_at n position.Graph (iri_text s.predicate) (blanks_of_graph s.graph)) o k)
 
+-- each related node of a blank node stands in the dataset
 pub related_in-stands : (q : List Statement) (n : Blank) (o : Occurrence Blank) → Contains (related_in q n) o → StandsIn q o.blank
 related_in-stands q n o k =
     let found = Contains-from_flat_map (occurrences_in n) (mention_set q n) o k in
     to_blanks_in q found.0 o.blank (Contains-from_filter (mentions n) q found.0 found.1).0 (in_statement n found.0 o found.2)
 
+-- the nodes of a dataset are told apart and listed once each, and so are their related nodes
 pub nodes-lawful : (digest : List ℕ → List ℕ) (q : List Statement) → AreNodes (nodes_of digest q)
 nodes-lawful digest q = record {
   equal = same_blank-equal;

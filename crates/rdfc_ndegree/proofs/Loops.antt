@@ -31,6 +31,7 @@ pub record Counting (before now : Meter) : Type 0 where
   pub rises : before.spent ≤ now.spent
   pub kept : before.spent ≤ before.limits.work → now.spent ≤ before.limits.work
 
+-- with nothing counted yet, the meter has its limits, its count and its room for work
 pub counting-start : (before : Meter) → Counting before before
 counting-start before = record { limits = refl; rises = omega arith; kept = λ k. k }
 
@@ -47,6 +48,7 @@ pub handed_on : {A E : Type 0} (r : Result A E) (e : E) (P : E → Type 0) → I
 handed_on (Ok a) e P h p = tt
 handed_on (Err x) e P h p = subst P (sym h) p
 
+-- an option that is Some of nothing is None
 pub is_none : {X : Type 0} (o : Option X) → ((x : X) → o ≡ Some x → ⊥) → IsNone o
 is_none None h = refl
 is_none (Some x) h = absurd (h x refl)
