@@ -17,6 +17,6 @@ mod text;
 pub use memory::Memory;
 pub use sequence::Sequence;
 pub use shared::Shared;
-pub use sorted::{Keyed, find_by_key};
+pub use sorted::{Keyed, find_by_key, search_by_key};
 pub use sqlite_items::{Boxed, Items};
 pub use text::Text;

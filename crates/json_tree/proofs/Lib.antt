@@ -9,3 +9,6 @@ pub mod Escapes
 pub mod Writing
 pub mod Compact
 pub mod RoundTrip
+pub mod Kept
+pub mod Elements
+pub mod Versionless

@@ -10,7 +10,7 @@ use Rattle.json_tree.specs.declared.tree.Member.{Member}
 use Rattle.json_tree.specs.declared.place.Step.{Step}
 use Rattle.json_tree.specs.declared.place.Step.TheVariants.{Key, At}
 use Rattle.json_tree.specs.Trees.{each_next, is_before, lawful_step, is_lawful, AreLawful}
-use Rattle.json_tree.specs.Places.{value_of, child_in, child_of, text_in, text_of, members_in, members_of, names_in, names_at}
+use Rattle.json_tree.specs.Places.{value_of, child_in, child_of, text_in, text_of, items_in, items_of, members_in, members_of, names_in, names_at}
 use Rattle.json_tree.proofs.Rising.{each_next-map, left_of, right_of}
 
 -- ---- is_lawful
@@ -158,6 +158,19 @@ child_of_members (Tree-F.Object ms) key = refl
 
 pub child_of-members : (t : Tree) (key : List ℕ) → child_of t (Key key) ≡ option_and_then (value_of key) (members_of t)
 child_of-members t key = child_of_members (out-Tree t) key
+
+-- an element stands at its index
+child_of_items : (x : Tree-F Tree) (at : ℕ) → child_in x (At at) ≡ option_and_then (λ items. option_map (λ i. i.value) (find (λ i. i.at == at) items)) (items_in x)
+child_of_items Tree-F.Null at = refl
+child_of_items (Tree-F.Bool b) at = refl
+child_of_items (Tree-F.Whole z) at = refl
+child_of_items Tree-F.Version at = refl
+child_of_items (Tree-F.Text s) at = refl
+child_of_items (Tree-F.List items) at = refl
+child_of_items (Tree-F.Object ms) at = refl
+
+pub child_of-items : (t : Tree) (at : ℕ) → child_of t (At at) ≡ option_and_then (λ items. option_map (λ i. i.value) (find (λ i. i.at == at) items)) (items_of t)
+child_of-items t at = child_of_items (out-Tree t) at
 
 -- the names are those of the members
 names_of_members : (x : Tree-F Tree) → names_in x ≡ option_map (λ members. map (λ m. m.key) members) (members_in x)

@@ -47,6 +47,14 @@ members_in t = None
 abbrev pub members_of : Tree → Option (List (Member Tree))
 members_of t = members_in (out-Tree t)
 
+-- a list's elements in order, or nothing where the tree is no list
+abbrev pub items_in : Tree-F Tree → Option (List (Item Tree))
+items_in (Tree-F.List items) = Some items
+items_in t = None
+
+abbrev pub items_of : Tree → Option (List (Item Tree))
+items_of t = items_in (out-Tree t)
+
 -- the names of an object's members in order, or nothing where the tree is no object
 abbrev pub names_in : Tree-F Tree → Option (List (List ℕ))
 names_in (Tree-F.Object members) = Some (map (λ m. m.key) members)

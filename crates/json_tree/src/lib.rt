@@ -18,7 +18,7 @@ mod tests;
 mod tree;
 
 pub use base_types::{Items, Memory, Sequence, Text};
-pub use looking::member;
+pub use looking::{element, look, member, text_member};
 pub use place::{Place, Step};
 pub use pointer::pointer_text;
 pub use printing::{VERSION, print};

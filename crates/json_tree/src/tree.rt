@@ -1,4 +1,6 @@
-ghost use Rattle.std.specs.Prelude.{◌≡◌, true, IfSome};
+//! The tree of a JSON text. RFC 8259, section 3.
+
+ghost use Rattle.std.specs.Prelude.{◌≡◌, true, nat_lt, IfSome};
 ghost use Rattle.std.specs.Option.{option_copied};
 
 use crate::place::Place;
@@ -42,7 +44,7 @@ pub enum TreeFault {
     NotWhole(Place),
     /// The text nests more than 100 deep.
     TooDeep,
-    /// Want of memory.
+    /// Out of memory.
     Memory,
 }
 
@@ -69,8 +71,9 @@ impl From<AllocError> for TreeFault {
 }
 
 impl Tree {
-    ghost use Rattle.json_tree.specs.Places.{text_of, members_of};
-    ghost use Rattle.json_tree.specs.Trees.{is_lawful, AreLawful};
+    ghost use Rattle.json_tree.specs.Places.{text_of, items_of, members_of};
+    ghost use Rattle.json_tree.specs.WellFormed.{IsWellFormed, AreWellFormed};
+    ghost use Rattle.json_tree.specs.Trees.{is_lawful, each_next, AreLawful};
 
     /// The text, where the value is one.
     pub fn as_text(&self) -> Option<&Text>
@@ -82,10 +85,23 @@ impl Tree {
         }
     }
 
+    /// The elements in the order of their indexes, where the value is a list.
+    pub fn as_list(&self) -> Option<&[Item]>
+        ensures items { option_copied result ≡ items_of self.now }
+        ensures rising { is_lawful self.now ≡ true
+            → IfSome result (λ is. each_next (λ i j. nat_lt i.at j.at) is.now ≡ true) }
+    {
+        match self {
+            Tree::List(items) => Some(items.as_slice()),
+            _ => None,
+        }
+    }
+
     /// The members in the byte order of their names, where the value is an object.
     pub fn as_object(&self) -> Option<&[Member]>
         ensures members { option_copied result ≡ members_of self.now }
         ensures lawful { is_lawful self.now ≡ true → IfSome result (λ ms. AreLawful ms.now) }
+        ensures well_formed { IsWellFormed self.now → IfSome result (λ ms. AreWellFormed ms.now) }
     {
         match self {
             Tree::Object(members) => Some(members.as_slice()),
