@@ -3,7 +3,7 @@ use Rattle.std.proofs.Common.{◌≡◌, ℕ, true, false, List, [], ◌∷◌, 
 use Rattle.std.specs.List.{list_all}
 use Rattle.std.specs.Str.{bytes_eq}
 use Rattle.std.proofs.lemmas.Bool.{cases_Bool}
-use Rattle.base_types.proofs.Lists.{Contains-map}
+use Rattle.base_types.proofs.Lists.{Contains-map, same_some}
 use Rattle.json_tree.specs.declared.tree.Tree.{Tree}
 use Rattle.json_tree.specs.declared.tree.Tree.TheVariants as v
 use Rattle.json_tree.specs.declared.tree.Member.{Member}
@@ -16,9 +16,10 @@ use Rattle.ld_rdf.specs.Plain.{has_noncharacter}
 use Rattle.ld_rdf.specs.Flat.{at_context, at_id, HasText, term_place, IsFlat}
 use Rattle.ld_rdf.specs.Internal.Parts.{member_text, is_definition, property_of, is_id_or_context}
 use Rattle.ld_rdf.proofs.WholeRequests.{document_statements, flat_statements}
-use Rattle.ld_rdf.proofs.OptionsAndLists.{option_map-Some, same_value, equal_text, list_all-from}
+use Rattle.ld_rdf.proofs.OptionsAndLists.{option_map-Some, list_all-from}
 use Rattle.ld_rdf.proofs.Shapes.{Shape, child_is, names_down, at_term, at_member, terms_lawful, document_lawful, parts}
 use Rattle.ld_rdf.proofs.Meaning.{text_at-from, entry_false, property_from, statements_exist, value_at_member}
+use Rattle.base_types.proofs.Orders.{bytes_eq-same}
 
 abbrev keys : List (Member Tree) → List (List ℕ)
 keys ms = map (λ m. m.key) ms
@@ -65,14 +66,14 @@ module _ (r : Tree) (lawful : is_lawful r ≡ true) (f : IsFlat r) where
       let d = two.1 in
       let is_request : members_of r ≡ Some (c ∷ d ∷ []) = request.1 ∙ ap Some two.2 in
       let other : bytes_eq c.key (codes "document") ≡ false = ap (λ (k : List ℕ). bytes_eq k (codes "document")) two.3 in
-      let contexts_at = child_is r (c ∷ d ∷ []) (codes "contexts") is_request ∙ (let e : value_of (codes "contexts") (c ∷ d ∷ []) ≡ Some c.value = rw (equal_text c.key (codes "contexts") two.3) in e) in
-      let document_at = child_is r (c ∷ d ∷ []) (codes "document") is_request ∙ (let e : value_of (codes "document") (c ∷ d ∷ []) ≡ Some d.value = rw (other, equal_text d.key (codes "document") two.4) in e) in
+      let contexts_at = child_is r (c ∷ d ∷ []) (codes "contexts") is_request ∙ (let e : value_of (codes "contexts") (c ∷ d ∷ []) ≡ Some c.value = rw (bytes_eq-same c.key (codes "contexts") two.3) in e) in
+      let document_at = child_is r (c ∷ d ∷ []) (codes "document") is_request ∙ (let e : value_of (codes "document") (c ∷ d ∷ []) ≡ Some d.value = rw (other, bytes_eq-same d.key (codes "document") two.4) in e) in
       let supplied = one_of c.value f.name (sym (names_down r c.value (codes "contexts") [] contexts_at) ∙ f.supplied) in
       let n = supplied.member in
-      let supplied_at = child_is c.value (n ∷ []) f.name supplied.is ∙ (let e : value_of f.name (n ∷ []) ≡ Some n.value = rw (equal_text n.key f.name supplied.key) in e) in
+      let supplied_at = child_is c.value (n ∷ []) f.name supplied.is ∙ (let e : value_of f.name (n ∷ []) ≡ Some n.value = rw (bytes_eq-same n.key f.name supplied.key) in e) in
       let wrapped = one_of n.value at_context (sym (names_down c.value n.value f.name [] supplied_at) ∙ sym (names_down r c.value (codes "contexts") (Key f.name ∷ []) contexts_at) ∙ f.wrapped) in
       let x = wrapped.member in
-      let wrapped_at = child_is n.value (x ∷ []) at_context wrapped.is ∙ (let e : value_of at_context (x ∷ []) ≡ Some x.value = rw (equal_text x.key at_context wrapped.key) in e) in
+      let wrapped_at = child_is n.value (x ∷ []) at_context wrapped.is ∙ (let e : value_of at_context (x ∷ []) ≡ Some x.value = rw (bytes_eq-same x.key at_context wrapped.key) in e) in
       let terms_named = sym (names_down n.value x.value at_context [] wrapped_at) ∙ sym (names_down c.value n.value f.name (Key at_context ∷ []) supplied_at) ∙ sym (names_down r c.value (codes "contexts") (Key f.name ∷ Key at_context ∷ []) contexts_at) ∙ f.context in
       let terms = option_map-Some keys (members_of x.value) f.terms (sym (names_at-members x.value) ∙ terms_named) in
       let document_named = sym (names_down r d.value (codes "document") [] document_at) ∙ f.document in
@@ -106,7 +107,7 @@ module _ (r : Tree) (lawful : is_lawful r ≡ true) (f : IsFlat r) where
         let d = f.definitions m.key known in
         let here : value_of m.key w.shape.terms ≡ Some m.value = value_at_member w.shape.terms m (terms_lawful r w.shape lawful) c in
         let there : value_of m.key w.shape.terms ≡ Some (v.Text d.mapping) = sym (at_term r w.shape m.key) ∙ subst (λ (n : List ℕ). HasText (term_place n m.key) r d.mapping) (sym w.name) d.is in
-        let text : text_of m.value ≡ Some d.mapping = ap text_of (same_value (value_of m.key w.shape.terms) _ _ here there) ∙ text_of-Text d.mapping in
+        let text : text_of m.value ≡ Some d.mapping = ap text_of (same_some (value_of m.key w.shape.terms) _ _ here there) ∙ text_of-Text d.mapping in
         rw (d.plain, text, d.plain_iri)
 
     property_there : (m : Member Tree) → Contains w.shape.members m → is_id_or_context m.key ≡ false → (p : List ℕ × List ℕ) × (property_of w.shape.terms m ≡ Some p)
@@ -117,7 +118,7 @@ module _ (r : Tree) (lawful : is_lawful r ≡ true) (f : IsFlat r) where
         let value = f.values m.key known apart.0 apart.1 in
         let here : value_of m.key w.shape.members ≡ Some m.value = value_at_member w.shape.members m (document_lawful r w.shape lawful) c in
         let there : value_of m.key w.shape.members ≡ Some (v.Text value.text) = sym (at_member r w.shape m.key) ∙ value.is in
-        let text : text_of m.value ≡ Some value.text = ap text_of (same_value (value_of m.key w.shape.members) _ _ here there) ∙ text_of-Text value.text in
+        let text : text_of m.value ≡ Some value.text = ap text_of (same_some (value_of m.key w.shape.members) _ _ here there) ∙ text_of-Text value.text in
         let term : value_of m.key w.shape.terms ≡ Some (v.Text d.mapping) = sym (at_term r w.shape m.key) ∙ subst (λ (n : List ℕ). HasText (term_place n m.key) r d.mapping) (sym w.name) d.is in
         let carried : has_noncharacter value.text ≡ false = elim (cases_Bool (has_noncharacter value.text)) [ inl h ↦ absurd (value.carried h) | inr h ↦ h ] in
         ((d.mapping, value.text), property_from w.shape.terms m d.mapping value.text (text_at-from m.key w.shape.terms d.mapping term) text carried)
@@ -128,7 +129,7 @@ module _ (r : Tree) (lawful : is_lawful r ≡ true) (f : IsFlat r) where
         let id : member_text at_id w.shape.members ≡ Some f.id = text_at-from at_id w.shape.members f.id (sym (at_member r w.shape at_id) ∙ f.identified) in
         let chosen : member_text at_context w.shape.members ≡ Some f.name = text_at-from at_context w.shape.members f.name (sym (at_member r w.shape at_context) ∙ f.chosen) in
         let all : list_all is_definition w.shape.terms ≡ true = list_all-from is_definition w.shape.terms defined in
-        let same : bytes_eq w.shape.supplied.key f.name ≡ true = equal_text w.shape.supplied.key f.name w.name in
+        let same : bytes_eq w.shape.supplied.key f.name ≡ true = bytes_eq-same w.shape.supplied.key f.name w.name in
         let whole : document_statements (w.shape.supplied.key, w.shape.terms) w.shape.members ≡ Some made.0 = rw (id, chosen, f.plain_id, same, all) made.1 in
         (made.0, parts r w.shape ∙ whole)
 

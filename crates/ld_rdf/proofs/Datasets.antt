@@ -1,12 +1,12 @@
 -- The dataset of a flat request.
 use Rattle.std.proofs.Common.{◌≡◌, ◌≢◌, ℕ, true, false, ◌==◌, List, map, Contains, bytes_eq, not, Some, refl, sym, ap, ◌∙◌, subst, arith, codes}
 use Rattle.std.specs.List.{starts_with}
-use Rattle.std.proofs.lemmas.Bool.{true≢false}
+use Rattle.std.proofs.lemmas.Bool.{true≢false, not-true}
 use Rattle.std.proofs.lemmas.Bool.Decides.{nat_tests}
 use Rattle.std.proofs.lemmas.List.Elements.{All-weaker}
 use Rattle.std.proofs.lemmas.List.Sums.{AllPass-from_list_all}
 use Rattle.base_types.specs.Sets.{SameElements, AllDiffer}
-use Rattle.base_types.proofs.Lists.{Contains-map, Contains-from_map}
+use Rattle.base_types.proofs.Lists.{Contains-map, Contains-from_map, AllDiffer-images}
 use Rattle.json_tree.specs.declared.tree.Tree.{Tree}
 use Rattle.json_tree.specs.Trees.{is_lawful}
 use Rattle.nquads.specs.Terms.{Statement, HasIriCharacters, IsStatement, is_forbidden, xsd_string, rdf_lang_string}
@@ -16,7 +16,7 @@ use Rattle.nquads.proofs.ReadingTerms.{spelled_one_reading}
 use Rattle.ld_rdf.specs.Plain.{is_iri_character, IsPlainIri}
 use Rattle.ld_rdf.specs.Flat.{property_statement, IsFlat, IsFlatMeaning, Means}
 use Rattle.ld_rdf.proofs.WholeRequests.{flat_statements}
-use Rattle.ld_rdf.proofs.OptionsAndLists.{and_right, not_true, picked, AllDiffer-images}
+use Rattle.ld_rdf.proofs.OptionsAndLists.{and_right, picked}
 use Rattle.ld_rdf.proofs.Shapes.{Shape, shape_from_statements, parts}
 use Rattle.ld_rdf.proofs.Meaning.{Description, description, is_flat, means_from, means_to, means_plain}
 
@@ -32,7 +32,7 @@ plain_iri_is_iri text h =
     All-weaker (λ c. is_iri_character c ≡ true) (λ c. is_forbidden c ≡ false) plain_character text (AllPass-from_list_all is_iri_character text (and_right (starts_with ◌==◌ text (codes "https://")) _ h))
 
 xsd_string_is_iri : HasIriCharacters xsd_string
-xsd_string_is_iri = All-weaker (λ c. not (is_forbidden c) ≡ true) (λ c. is_forbidden c ≡ false) (λ c h. not_true (is_forbidden c) h) xsd_string (AllPass-from_list_all (λ c. not (is_forbidden c)) xsd_string refl)
+xsd_string_is_iri = All-weaker (λ c. not (is_forbidden c) ≡ true) (λ c. is_forbidden c ≡ false) (λ c h. not-true (is_forbidden c) h) xsd_string (AllPass-from_list_all (λ c. not (is_forbidden c)) xsd_string refl)
 
 strings_differ : xsd_string ≢ rdf_lang_string
 strings_differ e = true≢false (ap (λ (t : List ℕ). bytes_eq xsd_string t) e)

@@ -2,9 +2,9 @@
 use Rattle.std.proofs.Common.{◌≡◌, ◌≢◌, ℕ, true, false, ◌&&◌, ◌||◌, not, List, [], ◌∷◌, map, get_or, inl, inr, Contains, Some, option_map, option_and_then, refl, sym, ap, ◌∙◌, subst}
 use Rattle.std.specs.List.{list_all}
 use Rattle.std.specs.Str.{bytes_eq}
-use Rattle.std.proofs.lemmas.Bool.{cases_Bool, true≢false, or_right}
+use Rattle.std.proofs.lemmas.Bool.{cases_Bool, true≢false, or_right, not-true}
 use Rattle.std.proofs.lemmas.List.{get_or_default}
-use Rattle.base_types.proofs.Lists.{Contains-here, Contains-there, Contains-cons_cases, Contains-nil, Contains-map, Contains-from_map}
+use Rattle.base_types.proofs.Lists.{Contains-here, Contains-there, Contains-cons_cases, Contains-nil, Contains-map, Contains-from_map, same_some}
 use Rattle.json_tree.specs.declared.tree.Tree.{Tree}
 use Rattle.json_tree.specs.declared.tree.Tree.TheVariants as v
 use Rattle.json_tree.specs.declared.tree.Member.{Member}
@@ -17,8 +17,9 @@ use Rattle.ld_rdf.specs.Plain.{is_plain_iri, is_plain_term, has_noncharacter}
 use Rattle.ld_rdf.specs.Flat.{at_context, at_id, term_place, document_place, HasText, DefinesTerm, IsFlat, Means, property_statement}
 use Rattle.ld_rdf.specs.Internal.Parts.{only_if, member_text, is_definition, property_of, is_id_or_context, agrees}
 use Rattle.ld_rdf.proofs.WholeRequests.{statements_in, document_statements}
-use Rattle.ld_rdf.proofs.OptionsAndLists.{and_then-Some, option_map-Some, provided-Some, map_or-true, not_true, same_value, and_left, and_right, same_text, equal_text, list_all-contains}
+use Rattle.ld_rdf.proofs.OptionsAndLists.{and_then-Some, option_map-Some, provided-Some, map_or-true, and_left, and_right, list_all-contains}
 use Rattle.ld_rdf.proofs.Shapes.{Shape, at_term, at_member, names-request, names-contexts, names-supplied, names-terms, names-document, terms_lawful, document_lawful}
+use Rattle.base_types.proofs.Orders.{bytes_eq-true, bytes_eq-same}
 
 -- ---- texts among members
 
@@ -33,7 +34,7 @@ pub text_at-from : (key : List ℕ) (ms : List (Member Tree)) (text : List ℕ) 
 text_at-from key ms text h = ap (option_and_then text_of) h ∙ text_of-Text text
 
 same_content : (s t : List ℕ) → v.Text s ≡ v.Text t → s ≡ t
-same_content s t e = same_value (text_of (v.Text s)) s t (text_of-Text s) (ap text_of e ∙ text_of-Text t)
+same_content s t e = same_some (text_of (v.Text s)) s t (text_of-Text s) (ap text_of e ∙ text_of-Text t)
 
 -- a member that the list holds stands at its name
 pub value_at_member : (ms : List (Member Tree)) (m : Member Tree) → AreLawful ms → Contains ms m → value_of m.key ms ≡ Some m.value
@@ -48,13 +49,13 @@ member_of_value ms key t d s = (get_or ms s.place d, (s.place, s.within, get_or_
 
 -- what is neither `@id` nor `@context` differs from both
 pub entry_false : (key : List ℕ) → is_id_or_context key ≡ false → (key ≢ at_id) × (key ≢ at_context)
-entry_false key h = (λ e. true≢false (sym (ap (λ b. b || bytes_eq key at_context) (equal_text key at_id e)) ∙ h), λ e. true≢false (sym (or_right (bytes_eq key at_id) _ (equal_text key at_context e)) ∙ h))
+entry_false key h = (λ e. true≢false (sym (ap (λ b. b || bytes_eq key at_context) (bytes_eq-same key at_id e)) ∙ h), λ e. true≢false (sym (or_right (bytes_eq key at_id) _ (bytes_eq-same key at_context e)) ∙ h))
 
 entry_from : (key : List ℕ) → key ≢ at_id → key ≢ at_context → is_id_or_context key ≡ false
 entry_from key not_id not_context = elim (cases_Bool (bytes_eq key at_id)) [
-  | inl e ↦ absurd (not_id (same_text key at_id e))
+  | inl e ↦ absurd (not_id (bytes_eq-true key at_id e))
   | inr e ↦ elim (cases_Bool (bytes_eq key at_context)) [
-    | inl f ↦ absurd (not_context (same_text key at_context f))
+    | inl f ↦ absurd (not_context (bytes_eq-true key at_context f))
     | inr f ↦ rw (e, f)
   ]
 ]
@@ -70,11 +71,11 @@ property_parts terms m p h =
     let outer = and_then-Some (λ mapping. option_and_then (λ text. only_if (not (has_noncharacter text)) (Some (mapping, text))) (text_of m.value)) (member_text m.key terms) p h in
     let inner = and_then-Some (λ text. only_if (not (has_noncharacter text)) (Some (outer.0, text))) (text_of m.value) p outer.2 in
     let given = provided-Some (not (has_noncharacter inner.0)) (Some (outer.0, inner.0)) p inner.2 in
-    let pair : (outer.0, inner.0) ≡ p = same_value (Some (outer.0, inner.0)) (outer.0, inner.0) p refl given.1 in
+    let pair : (outer.0, inner.0) ≡ p = same_some (Some (outer.0, inner.0)) (outer.0, inner.0) p refl given.1 in
     record {
       mapping = outer.1 ∙ ap (λ (q : List ℕ × List ℕ). Some q.0) pair;
       text = inner.1 ∙ ap (λ (q : List ℕ × List ℕ). Some q.1) pair;
-      carried = ap has_noncharacter (sym (ap (λ (q : List ℕ × List ℕ). q.1) pair)) ∙ not_true (has_noncharacter inner.0) given.0;
+      carried = ap has_noncharacter (sym (ap (λ (q : List ℕ × List ℕ). q.1) pair)) ∙ not-true (has_noncharacter inner.0) given.0;
     }
 
 -- a term with an IRI and a text that can be carried are a property
@@ -112,7 +113,7 @@ module _ (terms : List (Member Tree)) (id : List ℕ) where
 
   -- and each statement comes from a property
   pub origin_of : (ms : List (Member Tree)) (ss : List Statement) (s : Statement) → statements_in terms id ms ≡ Some ss → Contains ss s → (m : Member Tree) × (p : List ℕ × List ℕ) × Contains ms m × (is_id_or_context m.key ≡ false) × (property_of terms m ≡ Some p) × (s ≡ property_statement id p.0 p.1)
-  origin_of [] ss s h c = absurd (Contains-nil s (subst (λ (l : List Statement). Contains l s) (same_value (Some []) ss [] h refl) c))
+  origin_of [] ss s h c = absurd (Contains-nil s (subst (λ (l : List Statement). Contains l s) (same_some (Some []) ss [] h refl) c))
   origin_of (n ∷ ms) ss s h c = elim (cases_Bool (is_id_or_context n.key)) [
     | inl entry ↦
         let o = origin_of ms ss s (sym (turn_entry n ms entry) ∙ h) c in
@@ -162,7 +163,7 @@ description name terms members ss h =
       id = found.0;
       identified = found.1;
       plain = and_left (is_plain_iri found.0) _ first;
-      chosen = chosen.1 ∙ ap Some (sym (same_text name chosen.0 (and_right (is_plain_iri found.0) _ first)));
+      chosen = chosen.1 ∙ ap Some (sym (bytes_eq-true name chosen.0 (and_right (is_plain_iri found.0) _ first)));
       definitions = and_right (is_plain_iri found.0 && bytes_eq name chosen.0) (list_all is_definition terms) given.0;
       statements = given.1;
     }
@@ -257,27 +258,27 @@ module _ (r : Tree) (lawful : is_lawful r ≡ true) (s : Shape r) (ss : List Sta
 
   pub means_to : (t : Statement) → Means r t → Contains ss t
   means_to t m =
-      let name : m.name ≡ s.supplied.key = same_content m.name s.supplied.key (same_value (look (document_place at_context) r) _ _ m.chosen chosen_at) in
-      let id : m.id ≡ d.id = same_content m.id d.id (same_value (look (document_place at_id) r) _ _ m.identified identified_at) in
+      let name : m.name ≡ s.supplied.key = same_content m.name s.supplied.key (same_some (look (document_place at_context) r) _ _ m.chosen chosen_at) in
+      let id : m.id ≡ d.id = same_content m.id d.id (same_some (look (document_place at_id) r) _ _ m.identified identified_at) in
       let stands : value_of m.key s.members ≡ Some (v.Text m.text) = sym (at_member r s m.key) ∙ m.value in
       let found = member_of_value s.members m.key (v.Text m.text) (record { key = m.key; value = v.Text m.text }) (value_of-Some s.members m.key (v.Text m.text) stands) in
       let plain : is_id_or_context found.0.key ≡ false = ap is_id_or_context found.2 ∙ entry_from m.key m.not_id m.not_context in
       let p = statement_of s.terms d.id s.members ss found.0 d.statements found.1 plain in
       let q = property_parts s.terms found.0 p.0 p.1 in
       let term : value_of m.key s.terms ≡ Some (v.Text m.mapping) = sym (at_term r s m.key) ∙ ap (λ (n : List ℕ). look (term_place n m.key) r) (sym name) ∙ m.term in
-      let mapping : p.0.0 ≡ m.mapping = same_value (member_text found.0.key s.terms) _ _ q.mapping (ap (λ (k : List ℕ). member_text k s.terms) found.2 ∙ text_at-from m.key s.terms m.mapping term) in
-      let text : p.0.1 ≡ m.text = same_value (text_of found.0.value) _ _ q.text (ap text_of found.3 ∙ text_of-Text m.text) in
+      let mapping : p.0.0 ≡ m.mapping = same_some (member_text found.0.key s.terms) _ _ q.mapping (ap (λ (k : List ℕ). member_text k s.terms) found.2 ∙ text_at-from m.key s.terms m.mapping term) in
+      let text : p.0.1 ≡ m.text = same_some (text_of found.0.value) _ _ q.text (ap text_of found.3 ∙ text_of-Text m.text) in
       let same : property_statement d.id p.0.0 p.0.1 ≡ t = (λ i. property_statement (sym id i) (mapping i) (text i)) ∙ sym m.is in
       subst (Contains ss) same p.2
 
   -- the IRIs of what it means are plain
   pub means_plain : (t : Statement) (m : Means r t) → (is_plain_iri m.id ≡ true) × (is_plain_iri m.mapping ≡ true)
   means_plain t m =
-      let name : m.name ≡ s.supplied.key = same_content m.name s.supplied.key (same_value (look (document_place at_context) r) _ _ m.chosen chosen_at) in
-      let id : m.id ≡ d.id = same_content m.id d.id (same_value (look (document_place at_id) r) _ _ m.identified identified_at) in
+      let name : m.name ≡ s.supplied.key = same_content m.name s.supplied.key (same_some (look (document_place at_context) r) _ _ m.chosen chosen_at) in
+      let id : m.id ≡ d.id = same_content m.id d.id (same_some (look (document_place at_id) r) _ _ m.identified identified_at) in
       let term : value_of m.key s.terms ≡ Some (v.Text m.mapping) = sym (at_term r s m.key) ∙ ap (λ (n : List ℕ). look (term_place n m.key) r) (sym name) ∙ m.term in
       let found = member_of_value s.terms m.key (v.Text m.mapping) (record { key = m.key; value = v.Text m.mapping }) (value_of-Some s.terms m.key (v.Text m.mapping) term) in
       let known : Contains (map (λ m. m.key) s.terms) m.key = subst (Contains (map (λ m. m.key) s.terms)) found.2 (Contains-map (λ (n : Member Tree). n.key) s.terms found.0 found.1) in
       let definition = defines m.key known in
-      let mapping : m.mapping ≡ definition.mapping = same_content m.mapping definition.mapping (same_value (look (term_place s.supplied.key m.key) r) _ _ (at_term r s m.key ∙ term) definition.is) in
+      let mapping : m.mapping ≡ definition.mapping = same_content m.mapping definition.mapping (same_some (look (term_place s.supplied.key m.key) r) _ _ (at_term r s m.key ∙ term) definition.is) in
       (ap is_plain_iri id ∙ d.plain, ap is_plain_iri mapping ∙ definition.plain_iri)

@@ -37,10 +37,6 @@ pub map_or-true : {A : Type 0} (p : A → Bool) (o : Option A) → option_map_or
 map_or-true p None h = absurd (cc)
 map_or-true p (Some x) h = (x, refl, h)
 
--- an option holds one value
-pub same_value : {A : Type 0} (o : Option A) (x y : A) → o ≡ Some x → o ≡ Some y → x ≡ y
-same_value o x y p q = cc
-
 -- ---- tests
 
 -- both hold, so the first does
@@ -52,19 +48,6 @@ and_left false b h = absurd (cc)
 pub and_right : (a b : Bool) → (a && b) ≡ true → b ≡ true
 and_right true b h = h
 and_right false b h = absurd (cc)
-
--- what does not hold is false
-pub not_true : (b : Bool) → not b ≡ true → b ≡ false
-not_true true h = absurd (cc)
-not_true false h = refl
-
--- texts with the same bytes are one
-pub same_text : (a b : List ℕ) → bytes_eq a b ≡ true → a ≡ b
-same_text a b h = (bytes_eq-Decides a b).0 h
-
--- one text has the same bytes
-pub equal_text : (a b : List ℕ) → a ≡ b → bytes_eq a b ≡ true
-equal_text a b e = (bytes_eq-Decides a b).1 e
 
 -- ---- lists
 
@@ -80,12 +63,6 @@ list_all-contains p (y ∷ ys) x h c = elim (Contains-cons_cases y ys x c) [
 pub list_all-from : {X : Type 0} (p : X → Bool) (xs : List X) → ((x : X) → Contains xs x → p x ≡ true) → list_all p xs ≡ true
 list_all-from p [] h = refl
 list_all-from p (x ∷ xs) h = rw (h x (Contains-here x xs)) (list_all-from p xs (λ y c. h y (Contains-there x xs y c)))
-
--- a list whose images differ has no repeats
-pub AllDiffer-images : {X Y : Type 0} (f : X → Y) (xs : List X) → AllDiffer (map f xs) → AllDiffer xs
-AllDiffer-images f xs differ i j d below within same =
-    let long : length (map f xs) ≡ length xs = length-map xs f in
-    differ i j (f d) below (omega arith) (get_or-map f xs i d ∙ ap f same ∙ sym (get_or-map f xs j d))
 
 -- a list of images, each of an element of xs, is the images of a list of such elements
 pub picked : {X Y : Type 0} (f : X → Y) (xs : List X) (ys : List Y) → ((y : Y) → Contains ys y → Contains (map f xs) y) → (zs : List X) × (ys ≡ map f zs) × ((z : X) → Contains zs z → Contains xs z)

@@ -20,7 +20,8 @@ use Rattle.ld_rdf.specs.Flat.{at_context, at_id, property_statement}
 use Rattle.ld_rdf.specs.Reduced.{with_members_in, with_members, without_key, put_member}
 use Rattle.ld_rdf.specs.Internal.Parts.{member_text, property_of, is_id_or_context, is_left_out, text_beside, statements_beside}
 use Rattle.ld_rdf.proofs.WholeRequests.{statements_in}
-use Rattle.ld_rdf.proofs.OptionsAndLists.{and_left, and_right, same_text, equal_text}
+use Rattle.ld_rdf.proofs.OptionsAndLists.{and_left, and_right}
+use Rattle.base_types.proofs.Orders.{bytes_eq-true, bytes_eq-same, turned, is_before-other_way, bytes_eq-false, bytes_eq-differ}
 
 -- ---- names that rise, by the first against all others
 
@@ -96,14 +97,6 @@ by_place P m n ns first same later = elim (cases_Bool (is_before m.key n.key)) [
   ]
 ]
 
-turned : (o : Ordering) → is_lt o ≡ false → is_eq o ≡ false → is_lt (ordering_reverse o) ≡ true
-turned Less h e = absurd (true≢false h)
-turned Equal h e = absurd (true≢false e)
-turned Greater h e = refl
-
-other_way : (a b : List ℕ) → is_before a b ≡ false → bytes_eq a b ≡ false → is_before b a ≡ true
-other_way a b h e = ap is_lt (nat_list_cmp_total.antisymm b a) ∙ turned (slice_cmp nat_cmp a b) h (is_eq-slice_cmp a b ∙ e)
-
 all-put : (p : Member Tree → Bool) (m : Member Tree) (ms : List (Member Tree)) → p m ≡ true → list_all p ms ≡ true → list_all p (put_member m ms) ≡ true
 all-put p m [] here all = both_hold (p m) true here refl
 all-put p m (n ∷ ns) here all =
@@ -118,8 +111,8 @@ rise-put m (n ∷ ns) rise =
     let tail = each_next-tail (λ a b. is_before a.key b.key) n ns rise in
     by_place NamesRise m n ns
     (λ h. both_hold (is_before m.key n.key) _ h rise)
-    (λ e. rise-cons m ns (ap (λ (k : List ℕ). after k ns) (same_text m.key n.key e) ∙ after-first n ns rise) tail)
-    (λ h e. rise-cons n (put_member m ns) (all-put (λ k. is_before n.key k.key) m ns (other_way m.key n.key h e) (after-first n ns rise)) (rise-put m ns tail))
+    (λ e. rise-cons m ns (ap (λ (k : List ℕ). after k ns) (bytes_eq-true m.key n.key e) ∙ after-first n ns rise) tail)
+    (λ h e. rise-cons n (put_member m ns) (all-put (λ k. is_before n.key k.key) m ns (is_before-other_way m.key n.key h e) (after-first n ns rise)) (rise-put m ns tail))
 
 -- a lawful member put into lawful ones leaves them lawful
 pub put_lawful : (m : Member Tree) (ms : List (Member Tree)) → is_lawful m.value ≡ true → AreLawful ms → AreLawful (put_member m ms)
@@ -160,12 +153,6 @@ is_lawful-changed change t lawful keeps =
 
 -- ---- texts
 
-bytes_eq-other : (a b : List ℕ) → bytes_eq a b ≡ false → a ≡ b → ⊥
-bytes_eq-other a b h e = true≢false (sym (equal_text a b e) ∙ h)
-
-differ_from : (a b : List ℕ) → (a ≡ b → ⊥) → bytes_eq a b ≡ false
-differ_from a b apart = elim (cases_Bool (bytes_eq a b)) [ inl h ↦ absurd (apart (same_text a b h)) | inr h ↦ h ]
-
 value-this : (key : List ℕ) (m : Member Tree) (ms : List (Member Tree)) → bytes_eq m.key key ≡ true → value_of key (m ∷ ms) ≡ Some m.value
 value-this key m ms h = rw h
 
@@ -189,7 +176,7 @@ value_stays : (besides key : List ℕ) (ms : List (Member Tree)) → (key ≡ be
 value_stays besides key [] apart = refl
 value_stays besides key (m ∷ ms) apart = elim (cases_Bool (bytes_eq m.key besides)) [
   | inl h ↦
-      let other : bytes_eq m.key key ≡ false = differ_from m.key key (λ e. apart (sym e ∙ same_text m.key besides h)) in
+      let other : bytes_eq m.key key ≡ false = bytes_eq-false m.key key (λ e. apart (sym e ∙ bytes_eq-true m.key besides h)) in
       ap (value_of key) (without-it besides m ms h) ∙ value_stays besides key ms apart ∙ sym (value-other key m ms other)
   | inr h ↦ ap (value_of key) (without-other besides m ms h) ∙ elim (cases_Bool (bytes_eq m.key key)) [
     | inl e ↦ value-this key m (without_key besides ms) e ∙ sym (value-this key m ms e)
@@ -206,24 +193,24 @@ beside-other besides key ms h = rw h
 -- the text of a member beside the one that is left out
 pub text_at-without : (besides key : List ℕ) (ms : List (Member Tree)) → member_text key (without_key besides ms) ≡ text_beside besides key ms
 text_at-without besides key ms = elim (cases_Bool (bytes_eq key besides)) [
-  | inl h ↦ ap (option_and_then text_of) (ap (λ (k : List ℕ). value_of k (without_key besides ms)) (same_text key besides h) ∙ value_gone besides ms) ∙ sym (beside-it besides key ms h)
-  | inr h ↦ ap (option_and_then text_of) (value_stays besides key ms (bytes_eq-other key besides h)) ∙ sym (beside-other besides key ms h)
+  | inl h ↦ ap (option_and_then text_of) (ap (λ (k : List ℕ). value_of k (without_key besides ms)) (bytes_eq-true key besides h) ∙ value_gone besides ms) ∙ sym (beside-it besides key ms h)
+  | inr h ↦ ap (option_and_then text_of) (value_stays besides key ms (bytes_eq-differ key besides h)) ∙ sym (beside-other besides key ms h)
 ]
 
 value_put : (m : Member Tree) (ms : List (Member Tree)) → value_of m.key (put_member m ms) ≡ Some m.value
-value_put m [] = value-this m.key m [] (equal_text m.key m.key refl)
+value_put m [] = value-this m.key m [] (bytes_eq-same m.key m.key refl)
 value_put m (n ∷ ns) =
     by_place (λ ks. value_of m.key ks ≡ Some m.value) m n ns
-    (λ h. value-this m.key m (n ∷ ns) (equal_text m.key m.key refl))
-    (λ e. value-this m.key m ns (equal_text m.key m.key refl))
-    (λ h e. value-other m.key n (put_member m ns) (differ_from n.key m.key (λ s. bytes_eq-other m.key n.key e (sym s))) ∙ value_put m ns)
+    (λ h. value-this m.key m (n ∷ ns) (bytes_eq-same m.key m.key refl))
+    (λ e. value-this m.key m ns (bytes_eq-same m.key m.key refl))
+    (λ h e. value-other m.key n (put_member m ns) (bytes_eq-false n.key m.key (λ s. bytes_eq-differ m.key n.key e (sym s))) ∙ value_put m ns)
 
 value_under_put : (key : List ℕ) (m : Member Tree) (ms : List (Member Tree)) → bytes_eq m.key key ≡ false → value_of key (put_member m ms) ≡ value_of key ms
 value_under_put key m [] other = value-other key m [] other
 value_under_put key m (n ∷ ns) other =
     by_place (λ ks. value_of key ks ≡ value_of key (n ∷ ns)) m n ns
     (λ h. value-other key m (n ∷ ns) other)
-    (λ e. value-other key m ns other ∙ sym (value-other key n ns (ap (λ (k : List ℕ). bytes_eq k key) (sym (same_text m.key n.key e)) ∙ other)))
+    (λ e. value-other key m ns other ∙ sym (value-other key n ns (ap (λ (k : List ℕ). bytes_eq k key) (sym (bytes_eq-true m.key n.key e)) ∙ other)))
     (λ h e. elim (cases_Bool (bytes_eq n.key key)) [
       | inl s ↦ value-this key n (put_member m ns) s ∙ sym (value-this key n ns s)
       | inr s ↦ value-other key n (put_member m ns) s ∙ value_under_put key m ns other ∙ sym (value-other key n ns s)
@@ -277,7 +264,7 @@ module _ (terms : List (Member Tree)) (id : List ℕ) where
   statements_in-put t (n ∷ ns) =
       by_place (λ ks. statements_in terms id ks ≡ statements_in terms id (n ∷ ns)) (new_member at_context t) n ns
       (λ h. refl)
-      (λ e. sym (entry_skipped n ns (ap is_id_or_context (sym (same_text at_context n.key e)))))
+      (λ e. sym (entry_skipped n ns (ap is_id_or_context (sym (bytes_eq-true at_context n.key e)))))
       (λ h e. elim (cases_Bool (is_id_or_context n.key)) [
         | inl s ↦ entry_skipped n (put_member (new_member at_context t) ns) s ∙ statements_in-put t ns ∙ sym (entry_skipped n ns s)
         | inr s ↦ property_first n (put_member (new_member at_context t) ns) s ∙ ap (one_before n) (statements_in-put t ns) ∙ sym (property_first n ns s)

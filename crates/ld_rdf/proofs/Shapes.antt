@@ -13,7 +13,9 @@ use Rattle.nquads.specs.Terms.{Statement}
 use Rattle.ld_rdf.specs.Flat.{at_context, context_place, term_place, document_place}
 use Rattle.ld_rdf.specs.Internal.Parts.{only_if, only_in, only_of, two_in, context_value, supplied_context}
 use Rattle.ld_rdf.proofs.WholeRequests.{document_statements, flat_statements}
-use Rattle.ld_rdf.proofs.OptionsAndLists.{and_then-Some, option_map-Some, provided-Some, same_value, and_left, and_right, same_text, equal_text}
+use Rattle.ld_rdf.proofs.OptionsAndLists.{and_then-Some, option_map-Some, provided-Some, and_left, and_right}
+use Rattle.base_types.proofs.Lists.{same_some}
+use Rattle.base_types.proofs.Orders.{bytes_eq-true, bytes_eq-same}
 
 -- ---- one step down
 
@@ -66,18 +68,18 @@ pub record Shape (r : Tree) : Type 0 where
 
 module _ (r : Tree) (s : Shape r) where
   child-contexts : child_of r (Key (codes "contexts")) ≡ Some s.contexts.value
-  child-contexts = child_is r _ _ s.is_request ∙ rw (equal_text s.contexts.key (codes "contexts") s.contexts_key)
+  child-contexts = child_is r _ _ s.is_request ∙ rw (bytes_eq-same s.contexts.key (codes "contexts") s.contexts_key)
 
   child-document : child_of r (Key (codes "document")) ≡ Some s.document.value
   child-document =
       let other : bytes_eq s.contexts.key (codes "document") ≡ false = ap (λ (k : List ℕ). bytes_eq k (codes "document")) s.contexts_key in
-      child_is r _ _ s.is_request ∙ rw (other, equal_text s.document.key (codes "document") s.document_key)
+      child_is r _ _ s.is_request ∙ rw (other, bytes_eq-same s.document.key (codes "document") s.document_key)
 
   child-supplied : child_of s.contexts.value (Key s.supplied.key) ≡ Some s.supplied.value
   child-supplied = child_is s.contexts.value _ _ s.is_contexts ∙ rw (bytes_eq-itself s.supplied.key)
 
   child-wrapped : child_of s.supplied.value (Key at_context) ≡ Some s.wrapped.value
-  child-wrapped = child_is s.supplied.value _ _ s.is_supplied ∙ rw (equal_text s.wrapped.key at_context s.wrapped_key)
+  child-wrapped = child_is s.supplied.value _ _ s.is_supplied ∙ rw (bytes_eq-same s.wrapped.key at_context s.wrapped_key)
 
   -- what stands at a term of the context and at a member of the document
   pub at_term : (term : List ℕ) → look (term_place s.supplied.key term) r ≡ value_of term s.terms
@@ -125,8 +127,8 @@ module _ (r : Tree) (s : Shape r) where
   -- the parts by which the program goes
   pub parts : flat_statements r ≡ document_statements (s.supplied.key, s.terms) s.members
   parts =
-      let two : two_in (s.contexts ∷ s.document ∷ []) ≡ Some (s.contexts.value, s.document.value) = rw (equal_text s.contexts.key (codes "contexts") s.contexts_key, equal_text s.document.key (codes "document") s.document_key) in
-      let inner : context_value s.supplied.value ≡ Some s.wrapped.value = rw (s.is_supplied, equal_text s.wrapped.key at_context s.wrapped_key) in
+      let two : two_in (s.contexts ∷ s.document ∷ []) ≡ Some (s.contexts.value, s.document.value) = rw (bytes_eq-same s.contexts.key (codes "contexts") s.contexts_key, bytes_eq-same s.document.key (codes "document") s.document_key) in
+      let inner : context_value s.supplied.value ≡ Some s.wrapped.value = rw (s.is_supplied, bytes_eq-same s.wrapped.key at_context s.wrapped_key) in
       let context : supplied_context s.contexts.value ≡ Some (s.supplied.key, s.terms) = rw (s.is_contexts, inner, s.is_wrapped) in
       rw (s.is_request, two, context, s.is_document)
 
@@ -155,13 +157,13 @@ two_members [] values h = absurd (cc)
 two_members (a ∷ []) values h = absurd (cc)
 two_members (c ∷ (d ∷ [])) values h =
     let given = provided-Some (bytes_eq c.key (codes "contexts") && bytes_eq d.key (codes "document")) (Some (c.value, d.value)) values h in
-    let pair : (c.value, d.value) ≡ values = same_value (Some (c.value, d.value)) (c.value, d.value) values refl given.1 in
+    let pair : (c.value, d.value) ≡ values = same_some (Some (c.value, d.value)) (c.value, d.value) values refl given.1 in
     record {
       contexts = c;
       document = d;
       is = refl;
-      contexts_key = same_text c.key _ (and_left (bytes_eq c.key (codes "contexts")) _ given.0);
-      document_key = same_text d.key _ (and_right (bytes_eq c.key (codes "contexts")) _ given.0);
+      contexts_key = bytes_eq-true c.key _ (and_left (bytes_eq c.key (codes "contexts")) _ given.0);
+      document_key = bytes_eq-true d.key _ (and_right (bytes_eq c.key (codes "contexts")) _ given.0);
       contexts_value = ap (λ (p : Tree × Tree). p.0) pair;
       document_value = ap (λ (p : Tree × Tree). p.1) pair;
     }
@@ -180,7 +182,7 @@ shape_from_statements r ss h =
     let inner = and_then-Some members_of (context_value supplied.0.value) terms.0 terms.1 in
     let lone = and_then-Some (λ m. only_if (bytes_eq m.key at_context) (Some m.value)) (only_of supplied.0.value) inner.0 inner.1 in
     let named = provided-Some (bytes_eq lone.0.key at_context) (Some lone.0.value) inner.0 lone.2 in
-    let value : lone.0.value ≡ inner.0 = same_value (Some lone.0.value) lone.0.value inner.0 refl named.1 in
+    let value : lone.0.value ≡ inner.0 = same_some (Some lone.0.value) lone.0.value inner.0 refl named.1 in
     record {
       contexts = two.contexts;
       document = two.document;
@@ -193,7 +195,7 @@ shape_from_statements r ss h =
       document_key = two.document_key;
       is_contexts = ap members_of two.contexts_value ∙ only_of-Some found.0.0 supplied.0 supplied.1;
       is_supplied = only_of-Some supplied.0.value lone.0 lone.1;
-      wrapped_key = same_text lone.0.key at_context named.0;
+      wrapped_key = bytes_eq-true lone.0.key at_context named.0;
       is_wrapped = ap members_of value ∙ inner.2;
       is_document = ap members_of two.document_value ∙ document.1;
     }

@@ -63,6 +63,7 @@ module _ (q : List Statement) (r : RunOutcome Blank) (d : IsRun (nodes q) r) whe
 
 -- ---- from the table
 
+-- the nodes of a table of a dataset stand in the dataset
 pub all-stand : (q : List Statement) (firsts : List BlankHash) (rows : List NodeRow) (t : IsTableWith q firsts [] rows) → All (StandsIn q) t.nodes
 all-stand q firsts rows t = All-weaker (λ b. StandsIn q b ⊎ Contains [] b) (StandsIn q) (λ b e. ⊎_elim (λ k. k) (λ k. absurd (Contains-nil b k)) e) t.nodes t.each
 
@@ -126,6 +127,7 @@ module _ {q : List Statement} {firsts : List BlankHash} {rows : List NodeRow} {l
   pub is-canon : IsCanon q limits c
   is-canon = record { answers = answers-run; names = answers-names; tie = answers-tie; every = answers-every }
 
+-- a limit that a run over the table exceeds, a run over the dataset exceeds
 pub fault-carried : (q : List Statement) (firsts : List BlankHash) (rows : List NodeRow) (limits : Limits) (e : CanonFault) → IsTableWith q firsts [] rows → IsFaultOf limits (WorkOver (table_nodes rows)) (DepthOver (table_nodes rows)) e
     → IsFaultOf limits (WorkOver (nodes q)) (DepthOver (nodes q)) e
 fault-carried q firsts rows limits e t h = same_fault refl (work-there q firsts rows t) (depth-there q firsts rows t) e h

@@ -73,12 +73,14 @@ module _ (digest : List ℕ → List ℕ) (q : List Statement) (r : RunOutcome B
 
 -- ---- one text, one dataset
 
+-- runs with one canonical text are of datasets that are the same up to blank nodes
 pub text-same : (digest : List ℕ → List ℕ) (q p : List Statement) (r s : RunOutcome Blank) → All IsStatement q → All IsStatement p → length r.issuer ≤ 2 ^ 64 → length s.issuer ≤ 2 ^ 64 → IsRun (nodes_of digest q) r → IsRun (nodes_of digest p) s
     → canonical_text (canonical_id (nodes_of digest q) r.issuer) q ≡ canonical_text (canonical_id (nodes_of digest p) s.issuer) p → Same q p
 text-same digest q p r s i j few few' d e is =
     text_determines_dataset (canonical_id (nodes_of digest q) r.issuer) (canonical_id (nodes_of digest p) s.issuer) q p i j
     (run-labels digest q r d few) (run-labels digest p s e few') (run-differ digest q r d few) (run-differ digest p s e few') is
 
+-- without a tie, datasets that are the same up to blank nodes have one canonical text
 pub same-text : (digest : List ℕ → List ℕ) (q p : List Statement) (r s : RunOutcome Blank) → IsDataset q → IsDataset p → IsRun (nodes_of digest q) r → IsRun (nodes_of digest p) s → r.tie ≡ false → Same q p
     → canonical_text (canonical_id (nodes_of digest q) r.issuer) q ≡ canonical_text (canonical_id (nodes_of digest p) s.issuer) p
 same-text digest q p r s i j d e none same =

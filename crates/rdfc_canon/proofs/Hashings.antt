@@ -42,10 +42,12 @@ pub record Hashing (v : Nodes ℕ) (c members : List ℕ) (paths : List NodePath
   pub spent_is : spent ≡ old + work_of done
   pub within : depth_of done ≤ limit
 
+-- the work of two lists of outcomes is the sum
 pub work_of-append : (os ps : List (Outcome ℕ)) → work_of (os ++ ps) ≡ work_of os + work_of ps
 work_of-append [] ps = omega arith
 work_of-append (o ∷ os) ps = let rest : work_of (os ++ ps) ≡ work_of os + work_of ps = work_of-append os ps in omega arith
 
+-- the depth of two lists of outcomes is the greater
 pub depth_of-append : (os ps : List (Outcome ℕ)) → depth_of (os ++ ps) ≡ max (depth_of os) (depth_of ps)
 depth_of-append [] ps = omega arith
 depth_of-append (o ∷ os) ps = let rest : depth_of (os ++ ps) ≡ max (depth_of os) (depth_of ps) = depth_of-append os ps in omega arith

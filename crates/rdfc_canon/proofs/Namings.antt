@@ -32,6 +32,7 @@ module _ (rows : List NodeRow) where
       ap (λ d. issue_paths d ps) (ap (issue_numbers c) z.0.issuer ∙ name_all-take c o.issuer)
       ∙ name_each-take (take_issuer (table_nodes rows) c o.issuer) ps os z.1
 
+-- numbers issued for two lists are issued for the first and then for the second
 pub name_all-append : (c xs ys : List ℕ) → issue_numbers c (xs ++ ys) ≡ issue_numbers (issue_numbers c xs) ys
 name_all-append c [] ys = refl
 name_all-append c (x ∷ xs) ys = name_all-append (issue_number c x) xs ys
@@ -45,6 +46,7 @@ name_all-differ c (n ∷ ns) a =
     let moved : (c ++ n ∷ []) ++ ns ≡ c ++ n ∷ ns = append_assoc c (n ∷ []) ns in
     ap (λ b. issue_numbers (cond b c (c ++ n ∷ [])) ns) none ∙ name_all-differ (c ++ n ∷ []) ns (subst AllDiffer (sym moved) a) ∙ moved
 
+-- the nodes with a hash of their own are issued in hash order, each once
 pub alone-named : (rows : List NodeRow) (gs : List (Group ℕ)) → gs ≡ first_groups (table_nodes rows) → issue_numbers [] (alone gs) ≡ alone (first_groups (table_nodes rows))
 alone-named rows gs e = ap (λ hs. issue_numbers [] (alone hs)) e ∙ name_all-differ [] (alone (first_groups (table_nodes rows))) (alone-differ (table_nodes rows))
 
@@ -54,6 +56,7 @@ alone-one c [] rest e = absurd (omega arith)
 alone-one c (m ∷ []) rest e = refl
 alone-one c (m ∷ (n ∷ ns)) rest e = absurd (omega arith)
 
+-- a group that is not of one member adds nothing
 pub alone-other : (ms : List ℕ) (rest : List ℕ) → (length ms == 1) ≡ false → if_alone ms ++ rest ≡ rest
 alone-other [] rest e = refl
 alone-other (m ∷ []) rest e = absurd (cc)

@@ -26,6 +26,7 @@ each_upto p (q ∷ qs) all = (upto_if p.hash q.hash all.0, each_upto p qs all.1)
 next : (p : NodePath) (ps : List NodePath) (k : ℕ) (d : NodePath) → get_or (p ∷ ps) (suc k + 1) d ≡ get_or ps (k + 1) d
 next p ps k d = let e : suc k + 1 ≡ suc (k + 1) = omega arith in ap (λ n. get_or (p ∷ ps) n d) e
 
+-- a list sorted by hash goes up from each to the next
 pub Up-from_sorted : (ps : List NodePath) → IsSortedByKey (λ (p : NodePath). p.hash) text_cmp ps → Up ps
 Up-from_sorted [] up = tt
 Up-from_sorted (p ∷ ps) up =
@@ -38,6 +39,7 @@ carried h l e [] (o ∷ os) z all = absurd z
 carried h l e (p ∷ ps) [] z all = absurd z
 carried h l e (p ∷ ps) (o ∷ os) z all = (subst (λ t. is_upto t o.hash ≡ true) e (subst (λ t. is_upto h t ≡ true) z.0.hash all.0), carried h l e ps os z.1 all.1)
 
+-- outcomes of paths that go up are in hash order
 pub order-from_Up : (ps : List NodePath) (os : List (Outcome ℕ)) → AllZip IsPathOf ps os → Up ps → InHashOrder os
 order-from_Up [] [] z up = tt
 order-from_Up [] (o ∷ os) z up = absurd z
@@ -69,6 +71,7 @@ next_is h (p ∷ ps) (o ∷ os) z all up = go (bytes_eq p.hash h) refl
     go true e = e ∙ ap (λ b. b || list_any (λ (q : Outcome ℕ). bytes_eq q.hash h) os) (sym e ∙ same)
     go false e = e ∙ sym (or_from (bytes_eq o.hash h) (list_any (λ (q : Outcome ℕ). bytes_eq q.hash h) os) (sym same ∙ e) (none_later h p.hash e all.0 ps os z.1 up.0))
 
+-- of sorted results two tie exactly where neighbours do
 pub neighbours-results : (ps : List NodePath) (os : List (Outcome ℕ)) → AllZip IsPathOf ps os → Up ps → neighbours_tie ps ≡ results_tie os
 neighbours-results [] [] z up = refl
 neighbours-results [] (o ∷ os) z up = absurd z

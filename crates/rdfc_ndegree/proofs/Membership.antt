@@ -17,6 +17,7 @@ use Rattle.rdfc_ndegree.specs.Groups.{NodeHash, Group, group_of, groups_by_hash}
 
 -- ---- membership
 
+-- an element that passes the test stands in what the test leaves
 pub Contains-filter : {X : Type 0} (p : X → Bool) (xs : List X) (x : X) → Contains xs x → p x ≡ true → Contains (filter p xs) x
 Contains-filter p [] x m e = m
 Contains-filter p (y ∷ ys) x m e = cond_both (p y) (y ∷ filter p ys) (filter p ys) (λ l. Contains l x) (λ t. at_true (Contains-filter p ys x)) (λ f. at_false f (Contains-filter p ys x))
@@ -27,6 +28,7 @@ Contains-filter p (y ∷ ys) x m e = cond_both (p y) (y ∷ filter p ys) (filter
     at_false : p y ≡ false → (Contains ys x → p x ≡ true → Contains (filter p ys) x) → Contains (filter p ys) x
     at_false f h = ⊎_elim (λ s. absurd (false≢true (sym f ∙ ap p s ∙ e))) (λ n. h n e) (Contains-cons_cases y ys x m)
 
+-- what the test leaves stood in the list and passes
 pub Contains-from_filter : {X : Type 0} (p : X → Bool) (xs : List X) (x : X) → Contains (filter p xs) x → Contains xs x × (p x ≡ true)
 Contains-from_filter p [] x m = absurd (Contains-nil x m)
 Contains-from_filter p (y ∷ ys) x m = go (p y) refl m (Contains-from_filter p ys x)
@@ -35,6 +37,7 @@ Contains-from_filter p (y ∷ ys) x m = go (p y) refl m (Contains-from_filter p 
     go true e n h = ⊎_elim (λ s. (subst (Contains (y ∷ ys)) s (Contains-here y ys), ap p (sym s) ∙ e)) (λ k. (Contains-there y ys x (h k).0, (h k).1)) (Contains-cons_cases y (filter p ys) x n)
     go false e n h = (Contains-there y ys x (h n).0, (h n).1)
 
+-- an element of the joined images is one of some image
 pub Contains-from_flat_map : {X Y : Type 0} (f : X → List Y) (xs : List X) (y : Y) → Contains (flat_map f xs) y → (x : X) × Contains xs x × Contains (f x) y
 Contains-from_flat_map f [] y m = absurd (Contains-nil y m)
 Contains-from_flat_map f (x ∷ xs) y m =
@@ -42,6 +45,7 @@ Contains-from_flat_map f (x ∷ xs) y m =
     (λ n. let r = Contains-from_flat_map f xs y n in (r.0, Contains-there x xs r.0 r.1, r.2))
     (Contains-append_cases (f x) (flat_map f xs) y m)
 
+-- an element of an image is one of the joined images
 pub Contains-flat_map : {X Y : Type 0} (f : X → List Y) (xs : List X) (x : X) (y : Y) → Contains xs x → Contains (f x) y → Contains (flat_map f xs) y
 Contains-flat_map f [] x y m n = absurd (Contains-nil x m)
 Contains-flat_map f (z ∷ zs) x y m n =
@@ -49,6 +53,7 @@ Contains-flat_map f (z ∷ zs) x y m n =
     (λ k. Contains-append_right (f z) (flat_map f zs) y (Contains-flat_map f zs x y k n))
     (Contains-cons_cases z zs x m)
 
+-- two lists without repeats and with nothing in common have no repeats together
 pub AllDiffer-append : {X : Type 0} (xs ys : List X) → AllDiffer xs → AllDiffer ys → ((x : X) → Contains xs x → Contains ys x → ⊥) → AllDiffer (xs ++ ys)
 AllDiffer-append [] ys a b n = b
 AllDiffer-append (x ∷ xs) ys a b n =
@@ -65,6 +70,7 @@ AllZip-from_left R (a ∷ as') (b ∷ bs) x z m =
     (λ n. let r = AllZip-from_left R as' bs x z.1 n in (r.0, Contains-there b bs r.0 r.1, r.2))
     (Contains-cons_cases a as' x m)
 
+-- each element of the second list has its partner in the first
 pub AllZip-from_right : {X Y : Type 0} (R : X → Y → Type 0) (xs : List X) (ys : List Y) (y : Y) → AllZip R xs ys → Contains ys y → (x : X) × Contains xs x × R x y
 AllZip-from_right R xs [] y z m = absurd (Contains-nil y m)
 AllZip-from_right R [] (b ∷ bs) y z m = absurd z
@@ -73,12 +79,14 @@ AllZip-from_right R (a ∷ as') (b ∷ bs) y z m =
     (λ n. let r = AllZip-from_right R as' bs y z.1 n in (r.0, Contains-there a as' r.0 r.1, r.2))
     (Contains-cons_cases b bs y m)
 
+-- a weaker relation holds pairwise too
 pub AllZip-weaker : {X Y : Type 0} (R S : X → Y → Type 0) (xs : List X) (ys : List Y) → ((x : X) (y : Y) → Contains xs x → R x y → S x y) → AllZip R xs ys → AllZip S xs ys
 AllZip-weaker R S [] [] h z = tt
 AllZip-weaker R S [] (y ∷ ys) h z = absurd z
 AllZip-weaker R S (x ∷ xs) [] h z = absurd z
 AllZip-weaker R S (x ∷ xs) (y ∷ ys) h z = (h x y (Contains-here x xs) z.0, AllZip-weaker R S xs ys (λ w v c r. h w v (Contains-there x xs w c) r) z.1)
 
+-- what holds pairwise of two pairs of lists holds of them joined
 pub AllZip-append : {X Y : Type 0} (R : X → Y → Type 0) (xs us : List X) (ys vs : List Y) → AllZip R xs ys → AllZip R us vs → AllZip R (xs ++ us) (ys ++ vs)
 AllZip-append R [] us [] vs z w = w
 AllZip-append R [] us (b ∷ bs) vs z w = absurd z
@@ -189,16 +197,19 @@ pub record IsHashed {B : Type 0} (hs : List (NodeHash B)) (hash : List ℕ) (m :
   pub hash_is : of.hash ≡ hash
   pub node_is : of.node ≡ m
 
+-- a member of the group of a hash has that hash
 pub group_of-member : {B : Type 0} (hs : List (NodeHash B)) (hash : List ℕ) (m : B) → Contains (group_of hs hash).members m → IsHashed hs hash m
 group_of-member {B} hs hash m k =
     let found = Contains-from_map (λ (h : NodeHash B). h.node) (filter (λ h. bytes_eq h.hash hash) hs) m k in
     let passed = Contains-from_filter (λ h. bytes_eq h.hash hash) hs found.0 found.1 in
     record { of = found.0; within = passed.0; hash_is = (bytes_eq-Decides found.0.hash hash).0 passed.1; node_is = found.2 }
 
+-- a node stands in the group of its hash
 pub member-group_of : {B : Type 0} (hs : List (NodeHash B)) (h : NodeHash B) → Contains hs h → Contains (group_of hs h.hash).members h.node
 member-group_of {B} hs h k =
     Contains-map (λ (g : NodeHash B). g.node) (filter (λ g. bytes_eq g.hash h.hash) hs) h (Contains-filter (λ g. bytes_eq g.hash h.hash) hs h k ((bytes_eq-Decides h.hash h.hash).1 refl))
 
+-- a member of one of the groups has the hash of that group
 pub grouped-member : {B : Type 0} (hs : List (NodeHash B)) (g : Group B) (m : B) → Contains (groups_by_hash hs) g → Contains g.members m → IsHashed hs g.hash m
 grouped-member {B} hs g m k l =
     let found = Contains-from_map (group_of hs) (sorted_set (map (λ (h : NodeHash B). h.hash) hs)) g k in

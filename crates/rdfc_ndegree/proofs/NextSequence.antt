@@ -353,6 +353,7 @@ left-next p q alike less next = strictly_sorted-unique nat_list_cmp_total (left_
           (Contains-cons_cases p (left_from false q) r c),
     )
 
+-- behind a sequence come itself and what comes behind the next one
 pub left-step : (old new : List ℕ) → IsStep old new → left_from false old ≡ old ∷ left_from false new
 unfolding tail
 left-step old new s =
@@ -364,6 +365,7 @@ left-step old new s =
     (λ r alike low. next-after s.pivot s.higher s.above s.lower s.falls s.over s.under s.before r alike low) in
     rw (s.old_is, s.new_is) one
 
+-- behind a falling sequence comes itself alone
 pub left-last : (p : List ℕ) → Falls p → left_from false p ≡ p ∷ []
 unfolding IsStrictlySortedBy
 left-last p down = strictly_sorted-unique nat_list_cmp_total (left_from false p) (p ∷ []) (left-sorted p p) (tt, tt) (λ r. (
@@ -393,14 +395,17 @@ Rises-from (x ∷ xs) up = (all-from xs (λ j in'. up 0 (suc j) (omega arith) (o
     all-from [] each = tt
     all-from (y ∷ ys) each = (each 0 (omega arith), all-from ys (λ j in'. each (suc j) (omega arith)))
 
+-- a sorted list rises
 pub Rises-sorted : (xs : List ℕ) → IsSorted nat_cmp xs → Rises xs
 Rises-sorted xs up = Rises-from xs (λ i j le in'. IsNonDecreasingBy-from_sort (λ x. x) xs up i j 0 le in')
 
+-- what comes behind the sorted members are their arrangements
 pub sorted-arrangements : (members xs ys : List ℕ) → xs ≡ members → IsPermutation xs ys → IsSorted nat_cmp ys → AreArrangements members (left_from false ys)
 sorted-arrangements members xs ys same moved up = left-all members ys (subst (λ ms. IsPermutation ms ys) same moved) (Rises-sorted ys up)
 
 -- ---- one step of the program
 
+-- what is left after a step, by whether a next sequence was made
 pub left-advance : (old new : List ℕ) (made : Bool) → Advances old new made → left_from false old ≡ old ∷ left_from (not made) new
 left-advance old new true step = left-step old new step
 left-advance old new false last = left-last old last.0

@@ -183,12 +183,14 @@ module _ {X : Type 0} (P : X → Type 0) where
   Each-map f [] h = tt
   Each-map f (y ∷ ys) h = (h.0, Each-map f ys h.1)
 
+-- a weaker fact holds of each element too
 pub Each-weaker : {X : Type 0} (P Q : X → Type 0) → ((x : X) → P x → Q x) → (xs : List X) → AllByRecursion P xs → AllByRecursion Q xs
 Each-weaker P Q w [] h = tt
 Each-weaker P Q w (x ∷ xs) h = (w x h.0, Each-weaker P Q w xs h.1)
 
 -- ---- lists of mapped elements
 
+-- functions that agree on each element have one list of images
 pub map-agree : {X Y : Type 0} (P : X → Type 0) (f g : X → Y) → ((x : X) → P x → f x ≡ g x) → (xs : List X) → AllByRecursion P xs → map f xs ≡ map g xs
 map-agree P f g e [] h = refl
 map-agree P f g e (x ∷ xs) h = rw (e x h.0, map-agree P f g e xs h.1) refl
@@ -197,22 +199,27 @@ cond-map : {X Y : Type 0} (f : X → Y) (b : Bool) (x : X) (xs : List X) → con
 cond-map f true x xs = refl
 cond-map f false x xs = refl
 
+-- to test the images is to take the images of what passes
 pub filter-map : {X Y : Type 0} (P : X → Type 0) (f : X → Y) (t : X → Bool) (u : Y → Bool) → ((x : X) → P x → u (f x) ≡ t x) → (xs : List X) → AllByRecursion P xs → filter u (map f xs) ≡ map f (filter t xs)
 filter-map P f t u e [] h = refl
 filter-map P f t u e (x ∷ xs) h = rw (e x h.0, filter-map P f t u e xs h.1) (cond-map f (t x) x (filter t xs))
 
+-- some image passes exactly where some element does
 pub list_any-map : {X Y : Type 0} (P : X → Type 0) (f : X → Y) (t : X → Bool) (u : Y → Bool) → ((x : X) → P x → u (f x) ≡ t x) → (xs : List X) → AllByRecursion P xs → list_any u (map f xs) ≡ list_any t xs
 list_any-map P f t u e [] h = refl
 list_any-map P f t u e (x ∷ xs) h = rw (e x h.0, list_any-map P f t u e xs h.1) refl
 
+-- a sum over images is the sum over the elements of what they give
 pub sum_by-map : {X Y : Type 0} (f : X → Y) (g : Y → ℕ) (xs : List X) → sum_by g (map f xs) ≡ sum_by (λ x. g (f x)) xs
 sum_by-map f g [] = refl
 sum_by-map f g (x ∷ xs) = sum_by-cons g (f x) (map f xs) ∙ ap (λ n. g (f x) + n) (sum_by-map f g xs) ∙ sym (sum_by-cons (λ y. g (f y)) x xs)
 
+-- some image passes exactly where the image of some element does
 pub list_any-map_each : {X Y : Type 0} (f : X → Y) (u : Y → Bool) (xs : List X) → list_any u (map f xs) ≡ list_any (λ x. u (f x)) xs
 list_any-map_each f u [] = refl
 list_any-map_each f u (x ∷ xs) = ap (λ b. u (f x) || b) (list_any-map_each f u xs)
 
+-- to test the images is to take the images of the elements whose image passes
 pub filter-map_each : {X Y : Type 0} (f : X → Y) (u : Y → Bool) (xs : List X) → filter u (map f xs) ≡ map f (filter (λ x. u (f x)) xs)
 filter-map_each f u [] = refl
 filter-map_each f u (x ∷ xs) = ap (λ l. cond (u (f x)) (f x ∷ l) l) (filter-map_each f u xs) ∙ cond-map f (u (f x)) x (filter (λ y. u (f y)) xs)

@@ -27,6 +27,7 @@ falls-cons x xs y ys is low down =
     let down' : Falls (y ∷ ys) = subst Falls is down in
     (subst (AllByRecursion (λ z. z ≤ x)) (sym is) (low, all-lower x y ys low down'.0), down)
 
+-- a falling end with one more in front, which is not less, falls
 pub falls-more : (xs : List ℕ) (end : ℕ) → 1 < end → end ≤ length xs → slice_index xs (end - 1) ≤ slice_index xs (end - 2) → Falls (drop (end - 1) xs) → Falls (drop (end - 1 - 1) xs)
 falls-more xs end two in' low down =
     let back : end - 1 - 1 ≡ end - 2 = omega arith in
@@ -34,15 +35,19 @@ falls-more xs end two in' low down =
     let second = drop-more xs (end - 1) end (omega arith) (omega arith) in
     subst (λ k. Falls (drop k xs)) (sym back) (subst Falls (sym first) (falls-cons (slice_index xs (end - 2)) (drop (end - 1) xs) (slice_index xs (end - 1)) (drop end xs) second low down))
 
+-- the end behind the place before last falls
 pub falls-pivot : (xs : List ℕ) (end : ℕ) → 1 < end → Falls (drop (end - 1) xs) → Falls (drop (end - 2 + 1) xs)
 falls-pivot xs end two down = let e : end - 1 ≡ end - 2 + 1 = omega arith in subst (λ k. Falls (drop k xs)) e down
 
+-- an end that is the whole list falls as the list does
 pub falls-all : (xs : List ℕ) (end : ℕ) → end ≤ 1 → Falls (drop (end - 1) xs) → Falls xs
 falls-all xs end small down = let e : end - 1 ≡ 0 = omega arith in subst (λ k. Falls (drop k xs)) e down
 
+-- whatever is said holds of each element past the end
 pub none-after : (P : ℕ → Type 0) (xs : List ℕ) (k : ℕ) → length xs ≤ k → AllByRecursion P (drop k xs)
 none-after P xs k past = subst (AllByRecursion P) (sym (drop_all k xs past)) tt
 
+-- a fact of all behind a place holds from the place on, where it holds there
 pub all-back : (xs : List ℕ) (pivot above : ℕ) → 0 < above → above < length xs → slice_index xs above ≤ slice_index xs pivot → AllByRecursion (λ y. y ≤ slice_index xs pivot) (drop (above + 1) xs) → AllByRecursion (λ y. y ≤ slice_index xs pivot) (drop (above - 1 + 1) xs)
 all-back xs pivot above some in' low all =
     let e : above - 1 + 1 ≡ above = omega arith in
@@ -114,6 +119,7 @@ module _ (bs : List ℕ) (x : ℕ) (us : List ℕ) (y : ℕ) (vs : List ℕ) (p 
       let none : drop (length w - (p + 1)) (drop (p + 1) w) ≡ [] = ap (drop (length w - (p + 1))) tail ∙ drop_all (length w - (p + 1)) rest fits in
       (λ k. front k ++ ((made ∙ ap reverse all) k ++ none k)) ∙ ap (λ t. (bs ++ y ∷ []) ++ t) (append-nil (reverse rest)) ∙ append_assoc bs (y ∷ []) (reverse rest)
 
+-- the pivot exchanged with the last above it, and the end turned round, is the next sequence
 pub stepped : (xs w r : List ℕ) (p a : ℕ) → p + 1 < length xs → Falls (drop (p + 1) xs) → p < a → a < length xs → slice_index xs p < slice_index xs a → AllByRecursion (λ y. y ≤ slice_index xs p) (drop (a + 1) xs)
     → w ≡ swap xs p a → r ≡ reverse (take (length w - (p + 1)) (drop (p + 1) w)) → IsStep xs (put_mid (p + 1) (length w - (p + 1)) w r)
 stepped xs w r p a room down after in' over under moved made =

@@ -30,6 +30,7 @@ kept-resized old new room k n is fits =
 pub ArePlaces-empty : (k : ℕ) → ArePlaces (replicate k None) []
 ArePlaces-empty k = record { differ = λ i j d below in'. omega arith; each = λ n. kept-none k n }
 
+-- places that are kept under more entries are the places of the same order
 pub ArePlaces-longer : (old new : List (Option ℕ)) (order : List ℕ) → ArePlaces old order → ((n : ℕ) → place_at (slice_get new n) ≡ place_at (slice_get old n)) → ArePlaces new order
 ArePlaces-longer old new order a same = record { differ = a.differ; each = λ n. same n ∙ a.each n }
 
@@ -67,6 +68,7 @@ number-push_other (x ∷ xs) m n some = go (x == n) refl (λ e. number-push_othe
     go true e rest = refl
     go false e rest = let later : list_any (λ k. k == n) xs ≡ true = grind (arith, nat_tests) in ap (λ j. 1 + j) (rest later)
 
+-- a number that is put behind a list stands at its end
 pub place-push_same : (xs : List ℕ) (n : ℕ) → list_any (λ m. m == n) xs ≡ false → place_in (xs ++ n ∷ []) n ≡ Some (length xs)
 place-push_same xs n none =
     let named : list_any (λ m. m == n) (xs ++ n ∷ []) ≡ true = any-push xs n n ∙ grind (arith, nat_tests) in

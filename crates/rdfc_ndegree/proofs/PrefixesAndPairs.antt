@@ -14,6 +14,7 @@ use Rattle.base_types.proofs.Orders.{bytes_eq-true}
 
 -- ---- tests
 
+-- tests that fail together are one
 pub same_tests : (a b : Bool) → (a ≡ false → b ≡ false) → (b ≡ false → a ≡ false) → a ≡ b
 same_tests true true f g = refl
 same_tests true false f g = g refl
@@ -27,20 +28,24 @@ begins [] ys = true
 begins (x ∷ xs) [] = false
 begins (x ∷ xs) (y ∷ ys) = (x == y) && begins xs ys
 
+-- to begin a path is what std calls to start with
 pub begins-starts_with : (before least : List ℕ) → starts_with ◌==◌ least before ≡ begins before least
 begins-starts_with [] least = refl
 begins-starts_with (x ∷ xs) [] = refl
 begins-starts_with (x ∷ xs) (y ∷ ys) = ap (λ b. (x == y) && b) (begins-starts_with xs ys)
 
+-- a path begins itself
 pub begins-refl : (xs : List ℕ) → begins xs xs ≡ true
 begins-refl [] = refl
 begins-refl (x ∷ xs) = grind (arith, nat_tests, begins-refl xs)
 
+-- what begins with a longer path begins with its front
 pub begins-append : (xs es ys : List ℕ) → begins (xs ++ es) ys ≡ true → begins xs ys ≡ true
 begins-append [] es ys e = refl
 begins-append (x ∷ xs) es [] e = e
 begins-append (x ∷ xs) es (y ∷ ys) e = grind (arith, nat_tests, begins-append xs es ys)
 
+-- a front of a front is a front
 pub begins-transitive : (xs ys zs : List ℕ) → begins xs ys ≡ true → begins ys zs ≡ true → begins xs zs ≡ true
 begins-transitive [] ys zs e f = refl
 begins-transitive (x ∷ xs) [] zs e f = absurd (true≢false (sym e))
@@ -55,19 +60,23 @@ one_side (x ∷ xs) (l ∷ ls) [] zs n h k u = absurd (true≢false (sym h))
 one_side (x ∷ xs) (l ∷ ls) (y ∷ ys) [] n h k u = absurd (true≢false (sym k))
 one_side (x ∷ xs) (l ∷ ls) (y ∷ ys) (z ∷ zs) n h k u = grind (arith, nat_tests, one_side xs ls ys zs)
 
+-- a path that goes on from what is no front of the least one is not the least
 pub begins-other : (xs least ys : List ℕ) → begins xs least ≡ false → begins xs ys ≡ true → bytes_eq ys least ≡ false
 begins-other xs least ys n h = false_from_ne_true (bytes_eq ys least) (λ e. true≢false (sym h ∙ ap (begins xs) (bytes_eq-true ys least e) ∙ n))
 
+-- what goes on from no front of the least path is no front of it
 pub begins-later : (xs least ys : List ℕ) → begins xs least ≡ false → begins xs ys ≡ true → begins ys least ≡ false
 begins-later xs least ys n h = false_from_ne_true (begins ys least) (λ e. true≢false (sym (begins-transitive xs ys least h e) ∙ n))
 
 -- ---- how many pass a test
 
+-- where none passes this one does not
 pub list_any-false : {X : Type 0} (p : X → Bool) (xs : List X) (x : X) → list_any p xs ≡ false → Contains xs x → p x ≡ false
 list_any-false p [] x e c = absurd (Contains-nil x c)
 list_any-false p (y ∷ ys) x e c =
     ⊎_elim (λ same. subst (λ z. p z ≡ false) same (or_parts (p y) (list_any p ys) e).0) (λ d. list_any-false p ys x (or_parts (p y) (list_any p ys) e).1 d) (Contains-cons_cases y ys x c)
 
+-- none passes where each fails
 pub list_any-none : {X : Type 0} (p : X → Bool) (xs : List X) → ((x : X) → Contains xs x → p x ≡ false) → list_any p xs ≡ false
 list_any-none p [] h = refl
 list_any-none p (x ∷ xs) h = or_from (p x) (list_any p xs) (h x (Contains-here x xs)) (list_any-none p xs (λ y c. h y (Contains-there x xs y c)))
@@ -75,9 +84,11 @@ list_any-none p (x ∷ xs) h = or_from (p x) (list_any p xs) (h x (Contains-here
 abbrev pub once : Bool → ℕ
 once b = cond b 1 0
 
+-- a count is that of the head and of the rest
 pub count_by-cons : {X : Type 0} (p : X → Bool) (x : X) (xs : List X) → count_by p (x ∷ xs) ≡ once (p x) + count_by p xs
 count_by-cons p x xs = sum_by-cons (λ y. once (p y)) x xs
 
+-- where one passes the count is not 0
 pub count_by-some : {X : Type 0} (p : X → Bool) (xs : List X) (x : X) → Contains xs x → p x ≡ true → 0 < count_by p xs
 count_by-some p [] x c e = absurd (Contains-nil x c)
 count_by-some p (y ∷ ys) x c e =
@@ -87,6 +98,7 @@ count_by-some p (y ∷ ys) x c e =
     (λ d. let rest : 0 < count_by p ys = count_by-some p ys x d e in omega arith)
     (Contains-cons_cases y ys x c)
 
+-- where at most one passes no two do
 pub count_by-two : {X : Type 0} (p : X → Bool) (x y : X) (xs : List X) → count_by p (x ∷ xs) ≤ 1 → p x ≡ true → Contains xs y → p y ≡ true → ⊥
 count_by-two p x y xs few e c f =
     let whole : count_by p (x ∷ xs) ≡ once (p x) + count_by p xs = count_by-cons p x xs in
@@ -105,6 +117,7 @@ count_by-one p (z ∷ zs) x y few c d e f =
     (λ m. ⊎_elim (λ t. absurd (count_by-two p z x zs few (ap p t ∙ f) m e)) (λ n. count_by-one p zs x y fewer m n e f) (Contains-cons_cases z zs y d))
     (Contains-cons_cases z zs x c)
 
+-- where none passes the count is 0
 pub count_by-none : {X : Type 0} (p : X → Bool) (xs : List X) → list_any p xs ≡ false → count_by p xs ≡ 0
 count_by-none p [] e = refl
 count_by-none p (x ∷ xs) e =
@@ -115,6 +128,7 @@ count_by-none p (x ∷ xs) e =
 
 -- ---- two lists, place by place
 
+-- two pairings with one list are a pairing of the others
 pub AllZip-join : {W X Y : Type 0} (R : W → X → Type 0) (S : W → Y → Type 0) (T : X → Y → Type 0) (h : (w : W) (x : X) (y : Y) → R w x → S w y → T x y) (ws : List W) (xs : List X) (ys : List Y) → AllZip R ws xs → AllZip S ws ys → AllZip T xs ys
 AllZip-join R S T h [] [] [] a b = tt
 AllZip-join R S T h [] [] (y ∷ ys) a b = absurd b
@@ -123,6 +137,7 @@ AllZip-join R S T h (w ∷ ws) [] ys a b = absurd a
 AllZip-join R S T h (w ∷ ws) (x ∷ xs) [] a b = absurd b
 AllZip-join R S T h (w ∷ ws) (x ∷ xs) (y ∷ ys) a b = (h w x y a.0 b.0, AllZip-join R S T h ws xs ys a.1 b.1)
 
+-- lists whose elements pass alike pairwise have one count
 pub AllZip-count_by : {X Y : Type 0} (p : X → Bool) (q : Y → Bool) (xs : List X) (ys : List Y) → AllZip (λ x y. p x ≡ q y) xs ys → count_by p xs ≡ count_by q ys
 AllZip-count_by p q [] [] z = refl
 AllZip-count_by p q [] (y ∷ ys) z = absurd z
@@ -140,6 +155,7 @@ abbrev pub Differ : {X : Type 0} → List X → Type 0
 Differ [] = Unit {0}
 Differ (x ∷ xs) = (Contains xs x → ⊥) × Differ xs
 
+-- a list without repeats differs from each element to the later ones
 pub Differ-from_AllDiffer : {X : Type 0} (xs : List X) → AllDiffer xs → Differ xs
 Differ-from_AllDiffer [] a = tt
 Differ-from_AllDiffer (x ∷ xs) a =
@@ -217,6 +233,7 @@ paired_more R x xs vs ys k p = record {
   zipped = (k.related, p.zipped);
 }
 
+-- a pairing of one listing of a set is one of every other listing
 pub paired : {X Y : Type 0} (R : X → Y → Type 0) (xs vs : List X) (ys : List Y) → Differ xs → Differ vs → SameElements xs vs → AllZip R vs ys → Paired R xs ys
 paired R [] [] [] d e s z = record { reordered = []; moved = IsPermutation-refl []; zipped = tt }
 paired R [] [] (y ∷ ys) d e s z = absurd z

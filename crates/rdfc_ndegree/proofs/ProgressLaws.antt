@@ -25,6 +25,7 @@ use Rattle.rdfc_ndegree.proofs.Bests.{best-tie, total_work-append, greatest_dept
 
 -- ---- faults
 
+-- a fault under limits that are equal and weaker facts is one
 pub same_fault : {limits limits' : Limits} {over over' deep deep' : ℕ → Type 0} → limits ≡ limits' → ((n : ℕ) → over n → over' n) → ((n : ℕ) → deep n → deep' n) → (e : CanonFault) → IsFaultOf limits over deep e → IsFaultOf limits' over' deep' e
 same_fault same f g (fault.TooMuchWork n) h = (h.0 ∙ ap (λ (l : Limits). l.work) same, f n h.1)
 same_fault same f g (fault.TooDeep n) h = (h.0 ∙ ap (λ (l : Limits). l.depth) same, g n h.1)

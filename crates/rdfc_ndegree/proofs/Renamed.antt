@@ -39,6 +39,7 @@ graph_agree : (f g : Blank → List ℕ) (t : Option Term) → AllByRecursion (�
 graph_agree f g None h = refl
 graph_agree f g (Some t) h = ap (λ (z : List ℕ). z ++ 32 ∷ []) (term_agree f g t h)
 
+-- labels that agree on the blank nodes of a statement give one line
 pub line-agree : (f g : Blank → List ℕ) (s : Statement) → AllByRecursion (λ b. f b ≡ g b) (blanks_of s) → line f s ≡ line g s
 line-agree f g s h =
     let rest : AllByRecursion (λ b. f b ≡ g b) (blanks_of_term s.object ++ blanks_of_graph s.graph) = Each-right (λ b. f b ≡ g b) (blanks_of_term s.subject) (blanks_of_term s.object ++ blanks_of_graph s.graph) h in
@@ -50,9 +51,11 @@ line-agree f g s h =
 abbrev pub InPlace : List Statement → Statement → Type 0
 InPlace q s = AllByRecursion (StandsIn q) (blanks_of s)
 
+-- each statement of a dataset stands in it with its blank nodes
 pub in_place : (q : List Statement) → AllByRecursion (InPlace q) q
 in_place q = Each-from_contains (InPlace q) q (λ s m. Each-from_contains (StandsIn q) (blanks_of s) (λ b n. to_blanks_in q s b m n))
 
+-- labels that agree on the blank nodes of a dataset give one canonical text
 pub text-agree : (f g : Blank → List ℕ) (q : List Statement) → ((b : Blank) → StandsIn q b → f b ≡ g b) → canonical_text f q ≡ canonical_text g q
 text-agree f g q h =
     ap (λ (ls : List (List ℕ)). concat (sorted_set ls))
@@ -275,6 +278,7 @@ module _ (digest : List ℕ → List ℕ) (f : Blank → Blank) (q r : List Stat
 
 -- ---- datasets that are the same up to the names of blank nodes
 
+-- of two datasets that are the same the renamed first is the second in another order
 pub order-from_Same : (q r : List Statement) (e : Same q r) → IsDataset q → IsDataset r → IsPermutation (map (rename (image e.pairs)) q) r
 order-from_Same q r e i j = IsPermutation-from_elements (map (rename (image e.pairs)) q) r (IsDataset-rename (image e.pairs) q (one_to_one-from_Same q r e) i) j e.elements
 

@@ -129,9 +129,11 @@ module _ {q : List Statement} {n : Blank} {c i : List Blank} {rows : List NodeRo
 
 -- ---- numbers are rows, whatever the texts are
 
+-- the number of a text is one of the table
 pub number-inside : (rows : List NodeRow) (text : List ℕ) (k : ℕ) → number_among (names_of rows) text ≡ Some k → k < length rows
 number-inside rows text k e = subst (λ n. k < n) (length-names rows) (number-below (names_of rows) text k e)
 
+-- the numbers of texts are all of the table
 pub numbers-inside : (rows : List NodeRow) (texts : List (List ℕ)) → AllByRecursion (λ k. k < length rows) (filter_map (number_among (names_of rows)) texts)
 numbers-inside rows [] = tt
 numbers-inside rows (text ∷ texts) = go (number_among (names_of rows) text) refl (numbers-inside rows texts)
@@ -185,6 +187,7 @@ pub record Steps (quads : List TextQuad) (firsts : List BlankHash) (canonical : 
   pub begun_is : begun ≡ filter_map (number_among (names_of rows)) issuer
   pub number_is : number_among (names_of rows) node ≡ Some number
 
+-- the steps of a call by texts, put together
 pub steps : {quads : List TextQuad} {firsts : List BlankHash} {canonical : List (List ℕ)} {node : List ℕ} {issuer : List (List ℕ)} {first second : List (List ℕ)} {text : List ℕ} {rows : List NodeRow} {named : List ℕ} {number : ℕ} {begun : List ℕ} → first ≡ canonical → second ≡ issuer → ((q : List Statement) (cs : List Blank) → quads ≡ map text_quad q → AreFirstHashes sha256_digits q firsts → first ++ (second ++ node ∷ []) ≡ map blank_text cs → IsTableWith q firsts cs rows) → named ≡ issue_numbers [] (filter_map (number_among (names_of rows)) first) → begun ≡ filter_map (number_among (names_of rows)) second → text ≡ node → Some number ≡ number_among (names_of rows) text → Steps quads firsts canonical node issuer rows named number begun
 steps {node = node} {rows = rows} a b table named_is begun_is g number_is = record {
   table = λ q cs is are all. table q cs is are ((λ j. a j ++ (b j ++ node ∷ [])) ∙ all);
@@ -193,6 +196,7 @@ steps {node = node} {rows = rows} a b table named_is begun_is g number_is = reco
   number_is = ap (number_among (names_of rows)) (sym g) ∙ sym number_is;
 }
 
+-- what a call over the table answers is an answer over the dataset
 pub call_carried : {quads : List TextQuad} {firsts : List BlankHash} {canonical : List (List ℕ)} {node : List ℕ} {issuer : List (List ℕ)} (q : List Statement) (n : Blank) (c i : List Blank) → IsSpelledCall q n c i (call_texts quads firsts canonical node issuer) → {rows : List NodeRow} {named begun : List ℕ} {number : ℕ} → Steps quads firsts canonical node issuer rows named number begun → IsCarried q n c i rows named number begun
 call_carried {firsts = firsts} {canonical = canonical} {node = node} {issuer = issuer} q n c i call {rows = rows} {named = named} {begun = begun} {number = number} s =
     let texts : canonical ++ (issuer ++ node ∷ []) ≡ map blank_text c ++ (map blank_text i ++ blank_text n ∷ []) = λ j. call.canonical_is j ++ (call.issuer_is j ++ call.node_is j ∷ []) in

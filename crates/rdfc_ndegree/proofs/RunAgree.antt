@@ -180,6 +180,7 @@ module _ {B : Type 0} (v : Nodes B) where
       (ap (λ (z : RunOutcome B). z.tie) same, λ f. ap (λ (z : RunOutcome B). z.issuer) same)
   Rounds-agree (g ∷ gs) c r s d e = round_step c g gs r s (Rounds-agree gs) d e
 
+-- runs agree on ties, and without one on the canonical issuer
 pub runs-agree : {B : Type 0} {v : Nodes B} {r s : RunOutcome B} → IsRun v r → IsRun v s → (r.tie ≡ s.tie) × (r.tie ≡ false → r.issuer ≡ s.issuer)
 runs-agree {v = v} {r = r} {s = s} d e = Rounds-agree v (first_groups v) (alone (first_groups v)) r s d.rounds e.rounds
 
@@ -193,6 +194,7 @@ labels-once h d =
     let same = runs-agree h.is_run d in
     (sym same.0 ∙ h.no_tie, sym (same.1 h.no_tie) ∙ h.is)
 
+-- a run without a tie gives the canonical issuer
 pub labels-of-run : {B : Type 0} {v : Nodes B} {r : RunOutcome B} → IsRun v r → r.tie ≡ false → IsCanonicalIssuer v r.issuer
 labels-of-run {r = r} d e = record { run = r; is_run = d; no_tie = e; is = refl }
 

@@ -33,12 +33,14 @@ use Rattle.rdfc_ndegree.proofs.RunCarry.{result_f, IsRun-carried, IsRun-inside, 
 
 -- ---- numbers
 
+-- each number below n is listed
 pub numbers-contains : (n k : ℕ) → k < n → Contains (numbers_below n) k
 numbers-contains zero k p = absurd (omega arith)
 numbers-contains (suc n) k p =
     ⊎_elim (λ e. subst (Contains (numbers_below n ++ n ∷ [])) (sym e) (Contains-push (numbers_below n) n))
     (⊎_elim (λ l. Contains-append_left (numbers_below n) (n ∷ []) k (numbers-contains n k l)) (λ g. absurd (omega arith))) (cases_order k n)
 
+-- each listed number is below n
 pub numbers-below : (n k : ℕ) → Contains (numbers_below n) k → k < n
 numbers-below zero (k) m = absurd (omega (arith, m.1))
 numbers-below (suc n) k m = ⊎_elim (λ c. let below = numbers-below n k c in omega arith) (λ e. omega arith) (Contains-push_cases (numbers_below n) n k m)
@@ -46,6 +48,7 @@ numbers-below (suc n) k m = ⊎_elim (λ c. let below = numbers-below n k c in o
 AllDiffer-push : {X : Type 0} (xs : List X) (x : X) → AllDiffer xs → (Contains xs x → ⊥) → AllDiffer (xs ++ x ∷ [])
 AllDiffer-push xs x a n = AllDiffer-permutation (x ∷ xs) (xs ++ x ∷ []) (IsPermutation-sym (xs ++ x ∷ []) (x ∷ xs) (IsPermutation-to_front xs x)) (AllDiffer-cons x xs n a)
 
+-- the numbers below n are listed once
 pub AllDiffer-numbers : (n : ℕ) → AllDiffer (numbers_below n)
 AllDiffer-numbers zero = AllDiffer-nil
 AllDiffer-numbers (suc n) = AllDiffer-push (numbers_below n) n (AllDiffer-numbers n) (λ m. let below = numbers-below n n m in omega arith)
@@ -58,6 +61,7 @@ row_closed rows n (Some row) e h =
     let at_row : All (λ (r : Related). r.node < length rows) row.related = subst (λ (z : NodeRow). All (λ (r : Related). r.node < length rows) z.related) (get_or_from_slice_get rows n row row e) (h n row (slice_get_within rows n row e)) in
     All-map (λ (x : Occurrence ℕ). x.blank < length rows) occurrence_of row.related at_row
 
+-- a table whose rows lead to its own rows is one of nodes
 pub table-lawful : (rows : List NodeRow) → IsClosed rows → AreNodes (table_nodes rows)
 unfolding table_nodes
 table-lawful rows h = record {
@@ -111,6 +115,7 @@ occurrences_below bs [] os z = tt
 occurrences_below bs (m ∷ ms) [] z = absurd z
 occurrences_below bs (m ∷ ms) (o ∷ os) z = (slice_get_within bs m.blank o.blank z.0.blank, occurrences_below bs ms os z.1)
 
+-- of blank nodes that differ two places with one node are one
 pub at-injective : (bs : List Blank) (x y : ℕ) → AllDiffer bs → x < length bs → y < length bs → at bs x ≡ at bs y → x ≡ y
 at-injective bs x y a p q e =
     ⊎_elim (λ k. k) (⊎_elim (λ l. absurd (a x y no_blank l q e)) (λ l. absurd (a y x no_blank l p (sym e)))) (cases_order x y)
@@ -143,6 +148,7 @@ table-carries q bs rows t =
           (subst (λ l. IsPermutation l (related_in q (at bs n))) (sym same) (IsPermutation-refl (related_in q (at bs n))));
     }
 
+-- the blank nodes at the first n places are the first n
 pub at-numbers : (bs : List Blank) (n : ℕ) → n ≤ length bs → map (at bs) (numbers_below n) ≡ take n bs
 at-numbers bs zero p = refl
 at-numbers bs (suc n) p =
@@ -161,6 +167,7 @@ table-all-carried q bs rows t h =
     (λ b. ((λ m. (blanks-all q b).0 (All-contains (StandsIn q) bs b h m)), (λ m. t.covers b ((blanks-all q b).1 m)))) in
     subst (λ l. IsPermutation l (blanks q)) (sym numbers) order
 
+-- the nodes of a table are its rows
 pub table-all-inside : (rows : List NodeRow) → AllByRecursion (λ k. k < length rows) (table_nodes rows).all
 unfolding table_nodes
 table-all-inside rows = Each-from_contains (λ k. k < length rows) (numbers_below (length rows)) (λ k m. numbers-below (length rows) k m)
@@ -211,6 +218,7 @@ place_if : (t : Bool) (a b : Blank) (bs : List Blank) (k : ℕ) → (t ≡ true 
 place_if true a b bs k p r = (omega arith, p refl)
 place_if false a b bs k p r = let h = r refl in let below : k < length bs = h.0 in (omega arith, h.1)
 
+-- a blank node stands at its place
 pub place-at : (bs : List Blank) (b : Blank) → Contains bs b → (place_in bs b < length bs) × (at bs (place_in bs b) ≡ b)
 unfolding place_in
 place-at [] b m = absurd (Contains-nil b m)

@@ -96,6 +96,7 @@ all-below : (names : List (List ℕ)) (rows : List NodeRow) (quads : List TextQu
 all-below names rows [] h = h
 all-below names rows (quad ∷ quads) h = all-below names (relate_parts rows (parts_by_number names quad)) quads (relate-below (length names) rows (parts_by_number names quad) h (parts-below names quad))
 
+-- there are as many names as rows
 pub length-names : (rows : List NodeRow) → length (names_of rows) ≡ length rows
 length-names [] = refl
 length-names (r ∷ rows) = ap suc (length-names rows)
@@ -122,6 +123,7 @@ built-made firsts others none one two names_are same last_is =
     let names = names_are ∙ ap names_of rows in
     last_is ∙ (λ i. relate_all (rows i) (map (parts_by_number (names i)) (same i)))
 
+-- the rows of the table that is built lead to its own rows
 pub built-closed : (quads : List TextQuad) (firsts : List BlankHash) (others : List (List ℕ)) → IsClosed (built quads firsts others)
 built-closed quads firsts others =
     let rows = with_rows (with_rows [] firsts) (map unused_name others) in
@@ -146,6 +148,7 @@ no_name : (t : Term) (bs : List Blank) → ((b : Blank) → bytes_eq (spelling t
 no_name t [] h = refl
 no_name t (b ∷ bs) h = ap (λ c. cond c (Some 0) (option_map suc (number_among (map blank_text bs) (spelling t)))) (h b) ∙ ap (option_map suc) (no_name t bs h)
 
+-- the blank node at a place is the one with the text at that place
 pub got_map : (bs : List Blank) (k : ℕ) (b : Blank) → slice_get (map blank_text bs) k ≡ Some (blank_text b) → slice_get bs k ≡ Some b
 got_map [] k b e = absurd (cc)
 got_map (c ∷ bs) zero b e = ap Some (blank_text_one_reading c b (cc))
@@ -404,6 +407,7 @@ zip-build R (x ∷ xs) (y ∷ ys) e h =
     let same : y ≡ first.0 = cc (first.1) in
     (subst (R x) (sym same) first.2, zip-build R xs ys (omega arith) (λ k z at_k. h (suc k) z at_k))
 
+-- an element at a place has its partner at the same place
 pub zip-find : {X Y : Type 0} (R : X → Y → Type 0) (xs : List X) (ys : List Y) (k : ℕ) (x : X) → AllZip R xs ys → slice_get xs k ≡ Some x → (y : Y) × (slice_get ys k ≡ Some y) × R x y
 zip-find R [] ys k x z e = absurd (cc)
 zip-find R (w ∷ xs) [] k x z e = absurd z
@@ -440,6 +444,7 @@ built_table q firsts cs rows s there =
       order = names-all rows ps ∙ s.order;
     }
 
+-- the table that is built is that of the dataset with these further nodes
 pub built-with : (q : List Statement) (cs : List Blank) (quads : List TextQuad) (firsts : List BlankHash) (others : List (List ℕ)) → quads ≡ map text_quad q → AreFirstHashes sha256_digits q firsts → others ≡ map blank_text cs → IsTableWith q firsts cs (built quads firsts others)
 built-with q cs quads firsts others is are other =
     let rows = with_rows (with_rows [] firsts) (map unused_name (map blank_text cs)) in

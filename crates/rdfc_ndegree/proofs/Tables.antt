@@ -51,6 +51,7 @@ module _ (rows : List NodeRow) where
 
 -- ---- places
 
+-- a number without a place is not listed
 pub place-none : (xs : List ℕ) (n : ℕ) → place_in xs n ≡ None → list_any (λ m. m == n) xs ≡ false
 place-none xs n e = go (list_any (λ m. m == n) xs) refl
   where
@@ -58,6 +59,7 @@ place-none xs n e = go (list_any (λ m. m == n) xs) refl
     go false is = is
     go true is = let made : place_in xs n ≡ Some (number_in xs n) = rw is refl in absurd (cc)
 
+-- a number with a place is listed, and the place is its number in the issuer
 pub place-some : (xs : List ℕ) (n k : ℕ) → place_in xs n ≡ Some k → (list_any (λ m. m == n) xs ≡ true) × (k ≡ number_in xs n)
 place-some xs n k e = go (list_any (λ m. m == n) xs) refl
   where
@@ -65,10 +67,12 @@ place-some xs n k e = go (list_any (λ m. m == n) xs) refl
     go false is = let made : place_in xs n ≡ None = rw is refl in absurd (cc)
     go true is = let made : place_in xs n ≡ Some (number_in xs n) = rw is refl in (is, cc)
 
+-- the number of what is not listed is the length
 pub number-absent : (xs : List ℕ) (n : ℕ) → list_any (λ m. m == n) xs ≡ false → number_in xs n ≡ length xs
 number-absent [] n e = refl
 number-absent (x ∷ xs) n e = grind (arith, nat_tests, number-absent xs n)
 
+-- what is not contained is not found
 pub absent-any : (xs : List ℕ) (n : ℕ) → (Contains xs n → ⊥) → list_any (λ m. m == n) xs ≡ false
 absent-any xs n absent = list_any-none (λ m. m == n) xs (λ m k. false_from_ne_true (m == n) (λ e. absent (subst (Contains xs) ((Decides-eqb m n).0 e) k)))
 
@@ -83,6 +87,7 @@ place-found (x ∷ xs) n (suc k) in' is none =
     let next : suc k ≡ 1 + number_in xs n = omega (arith, rest.1) in
     rw (other, rest.0) (ap Some next)
 
+-- a number that the search to the end does not meet has no place
 pub place-missing : (xs : List ℕ) (n k : ℕ) → length xs ≤ k → list_any (λ m. m == n) (take k xs) ≡ false → None ≡ place_in xs n
 place-missing xs n k past none = let whole : take k xs ≡ xs = take_all k xs past in let none' = rw whole at none in rw none' refl
 

@@ -116,6 +116,7 @@ module _ (rows : List NodeRow) (c i ms : List ℕ) where
 
 -- ---- what a nested call adds
 
+-- the place, or else the length, is the number in the issuer
 pub number-or_length : (i : List ℕ) (n k : ℕ) → k ≡ unwrap_or (place_in i n) (length i) → k ≡ number_in i n
 number-or_length i n k is = go (list_any (λ m. m == n) i) refl
   where
@@ -123,19 +124,23 @@ number-or_length i n k is = go (list_any (λ m. m == n) i) refl
     go true e = let made : place_in i n ≡ Some (number_in i n) = rw e refl in is ∙ ap (λ p. unwrap_or p (length i)) made
     go false e = let made : place_in i n ≡ None = rw e refl in is ∙ ap (λ p. unwrap_or p (length i)) made ∙ sym (number-absent i n e)
 
+-- what is pushed for a nested call is its part of the path
 pub entry-pushed : (rows : List NodeRow) (i : List ℕ) (n k : ℕ) (hash path : List ℕ) → k ≡ number_in i n → (((path ++ temporary_text k) ++ 60 ∷ []) ++ hash) ++ 62 ∷ [] ≡ path ++ path_part (table_nodes rows) i n hash
 entry-pushed rows i n k hash path is =
     let spells : temporary_text k ≡ 95 ∷ 58 ∷ temporary_id (table_nodes rows) i n = ap temporary_text is ∙ ap (λ t. 95 ∷ 58 ∷ t) (sym (table-temporary_id rows i n)) in
     simp append_assoc (ap (λ t. path ++ (t ++ (60 ∷ (hash ++ 62 ∷ [])))) spells)
 
+-- the same in the pieces in which the code pushes it
 pub entry-made : (rows : List NodeRow) (i : List ℕ) (n k : ℕ) (hash seen path p q r s : List ℕ) → k ≡ unwrap_or (place_in i n) (length i) → seen ≡ hash
     → p ≡ path ++ temporary_text k → q ≡ p ++ 60 ∷ [] → r ≡ q ++ seen → s ≡ r ++ 62 ∷ [] → s ≡ path ++ path_part (table_nodes rows) i n hash
 entry-made rows i n k hash seen path p q r s at same first second third fourth =
     fourth ∙ ap (λ t. t ++ 62 ∷ []) (third ∙ (λ j. (second ∙ ap (λ t. t ++ 60 ∷ []) first) j ++ same j)) ∙ entry-pushed rows i n k hash path (number-or_length i n k at)
 
+-- the first pass begins with nothing passed
 pub pass-start : (rows : List NodeRow) (c i ms : List ℕ) → FirstPass rows c i ms [] i [] (drop 0 ms)
 pass-start rows c i ms = Walking-start rows c i ms
 
+-- what is left from a place is its number and what is left behind it
 pub drop-next : (ms : List ℕ) (k m : ℕ) → k < length ms → m ≡ get_or ms k 0 → drop k ms ≡ m ∷ drop (k + 1) ms
 drop-next ms k m in' is = drop_more ms k 0 in' ∙ ap (λ x. x ∷ drop (k + 1) ms) (sym is)
 
