@@ -15,6 +15,7 @@ use Rattle.cbor_core.proofs.Arguments.{argument_again, head_first}
 use Rattle.cbor_core.proofs.Keys.{Fresh, fresh_after, fresh_at_first}
 use Rattle.cbor_core.proofs.Steps.{item_as_list, item_as_map, item_as_flat}
 
+-- a string spelled at the front of the bytes reads as its content
 pub string_again : (total major : ℕ) (content rest : List ℕ) → length content < 2 ^ 64 → string_at total ((head_of major (length content) ++ content) ++ rest) ≡ Ok (content, rest)
 unfolding string_at
 string_again total major content rest lt =
@@ -69,6 +70,7 @@ unfolding key_at
 key_is total left [] full m some = absurd (omega arith)
 key_is total left (b ∷ bytes) full m some = rw (ne_eqb left 0 (omega arith), m) refl
 
+-- a key spelled at the front of the bytes reads as its number, where an item may still begin
 pub key_again : (total left key : ℕ) (text rest : List ℕ) → IsHead 0 key text → 0 < left → key_at total left (text ++ rest) ≡ Ok (key, rest)
 key_again total left key text rest s some =
     let first = head_first 0 key rest in
@@ -158,6 +160,7 @@ nested_item total levels left item n text rest again le (inr s) =
     let k : suc levels - 1 ≡ levels = omega arith in
     item_as_map total left (omega arith) (text ++ rest) (suc levels) t.0 (omega arith) t.1 ∙ rw k t.2
 
+-- what spells an item reads as that item, with the bytes behind it and the count taken off
 pub item_again : (total levels : ℕ) → Again (item_at total levels) (Encodes levels)
 unfolding Encodes
 item_again total zero left item count text rest s le = flat_item total zero left item count text rest s.0 s.1 le

@@ -11,12 +11,15 @@ use Rattle.cbor_core.specs.Grammar.{IsBytes, head_of}
 use Rattle.cbor_core.specs.Internal.Reading.{start_of, byte_at, wide_at, argument_at}
 use Rattle.cbor_core.proofs.Outcomes.{same_ok, took, passed}
 
+-- behind the first of some bytes stand bytes
 pub IsBytes-tail : (b : ℕ) (bytes : List ℕ) → IsBytes (b ∷ bytes) → IsBytes bytes
 IsBytes-tail b bytes h i = h (suc i)
 
+-- what is left when some bytes are dropped are bytes
 pub IsBytes-drop : (n : ℕ) (bytes : List ℕ) → IsBytes bytes → IsBytes (drop n bytes)
 IsBytes-drop n bytes h i = rw get_or-drop (h (n + i))
 
+-- so many of the first bytes are bytes
 pub IsBytes-take : (n : ℕ) (bytes : List ℕ) → IsBytes bytes → IsBytes (take n bytes)
 IsBytes-take n bytes h i = elim (cases_lt i n) [
   | inl lt ↦ rw (get_or-take n bytes i 0 lt) (h i)
@@ -109,6 +112,7 @@ byte_takes total at (b ∷ bytes) n rest e =
 first_is : (b code : ℕ) → b % 32 ≡ code → b / 32 * 32 + code ≡ b
 first_is b code e = omega arith
 
+-- what the reader of arguments gave was spelled at the front, in the shortest head
 pub argument_takes : (total : ℕ) (bytes : List ℕ) (n : ℕ) (rest : List ℕ) → IsBytes bytes → argument_at total bytes ≡ Ok (n, rest) → Head bytes n rest
 unfolding argument_at
 argument_takes total [] n rest h e = absurd cc
@@ -162,6 +166,7 @@ argument_takes total (b ∷ bytes) n rest h e =
 code_of : (major code : ℕ) → code < 32 → (major * 32 + code) % 32 ≡ code
 code_of major code lt = omega arith
 
+-- the argument of a shortest head reads as the number it was made of
 pub argument_again : (total major n : ℕ) (rest : List ℕ) → n < 2 ^ 64 → argument_at total (head_of major n ++ rest) ≡ Ok (n, rest)
 unfolding argument_at
 argument_again total major n rest lt = elim (cases_lt n 24) [

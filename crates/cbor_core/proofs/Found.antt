@@ -25,6 +25,7 @@ pub record Str (bytes content rest : List ℕ) : Type 0 where
   pub parts : bytes ≡ (head_of (get_or bytes 0 0 / 32) (length content) ++ content) ++ rest
   fits : IsBytes rest
 
+-- what the reader of strings gave was spelled at the front of the bytes
 pub string_takes : (total : ℕ) (bytes content rest : List ℕ) → IsBytes bytes → string_at total bytes ≡ Ok (content, rest) → Str bytes content rest
 unfolding string_at
 string_takes total bytes content rest h e =
@@ -258,6 +259,7 @@ unfolding Encodes
 flat_took zero left bytes item after rest some t = record { count = 1; text = t.text; spelled = (t.spelled, refl); parts = t.parts; spent = omega (arith, t.same); fits = t.fits }
 flat_took (suc levels) left bytes item after rest some t = record { count = 1; text = t.text; spelled = inl (t.spelled, refl); parts = t.parts; spent = omega (arith, t.same); fits = t.fits }
 
+-- what the reader of items gave was spelled at the front of the bytes
 pub item_takes : (total levels : ℕ) → Takes (item_at total levels) (Encodes levels)
 unfolding item_at Encodes
 item_takes total zero left [] item after rest h e = absurd cc

@@ -38,6 +38,7 @@ put_other_by Less j k v e es more ne ih = rw (at_other j k ne) refl
 put_other_by Equal j k v e es more ne ih = some_either (is_eq (nat_cmp j e.0)) v e.1 (lookup (is_at (nat_cmp j)) es) (lookup (is_at (nat_cmp j)) es) refl
 put_other_by Greater j k v e es more ne ih = some_either (is_eq (nat_cmp j e.0)) e.1 e.1 (lookup (is_at (nat_cmp j)) more) (lookup (is_at (nat_cmp j)) es) ih
 
+-- to put an entry in changes nothing at another key
 pub has_put_other : (j k : ℕ) (v : Item) (es : List (ℕ × Item)) → j ≢ k → has j (insert_entry nat_cmp es k v) ≡ has j es
 has_put_other j k v [] ne = rw (at_other j k ne) refl
 has_put_other j k v (e ∷ es) ne = put_other_by (nat_cmp k e.0) j k v e es (insert_entry nat_cmp es k v) ne (has_put_other j k v es ne)
@@ -47,6 +48,7 @@ put_same_by Less k v e es more is ih = rw (at_itself k) refl
 put_same_by Equal k v e es more is ih = rw is refl
 put_same_by Greater k v e es more is ih = rw is ih
 
+-- a map has the key of the entry that was put in
 pub has_put_same : (k : ℕ) (v : Item) (es : List (ℕ × Item)) → has k (insert_entry nat_cmp es k v) ≡ true
 has_put_same k v [] = rw (at_itself k) refl
 has_put_same k v (e ∷ es) = put_same_by (nat_cmp k e.0) k v e es (insert_entry nat_cmp es k v) refl (has_put_same k v es)
@@ -55,6 +57,7 @@ has_put_same k v (e ∷ es) = put_same_by (nat_cmp k e.0) k v e es (insert_entry
 differs : (j k : ℕ) (v : Item) (done : List (ℕ × Item)) → has j (insert_entry nat_cmp done k v) ≡ false → j ≢ k
 differs j k v done h e = false≢true (sym h ∙ ap (λ (i : ℕ). has i (insert_entry nat_cmp done k v)) e ∙ has_put_same k v done)
 
+-- keys that are new after an entry was put in were new before, and are not that entry's
 pub fresh_before : (k : ℕ) (v : Item) (done entries : List (ℕ × Item)) → Fresh (insert_entry nat_cmp done k v) entries → Fresh done entries × AllBut k entries
 fresh_before k v done [] h = (tt, tt)
 fresh_before k v done (e ∷ es) h =
@@ -62,6 +65,7 @@ fresh_before k v done (e ∷ es) h =
     let rest = fresh_before k v done es h.1 in
     ((sym (has_put_other e.0 k v done ne) ∙ h.0, rest.0), (ne, rest.1))
 
+-- keys that are new to a map, and differ from one put in, are new after it as well
 pub fresh_after : (k : ℕ) (v : Item) (done entries : List (ℕ × Item)) → Fresh done entries → AllBut k entries → Fresh (insert_entry nat_cmp done k v) entries
 fresh_after k v done [] h ne = tt
 fresh_after k v done (e ∷ es) h ne = (has_put_other e.0 k v done ne.0 ∙ h.0, fresh_after k v done es h.1 ne.1)
@@ -79,6 +83,7 @@ lacks_before k (e ∷ es) done h =
     let other = differs k e.0 e.1 done rest.0 in
     (sym (has_put_other k e.0 e.1 done other) ∙ rest.0, ((λ same. other (sym same)), rest.1))
 
+-- a map that lacks a key still does when entries of other keys are put in
 pub lacks_after : (k : ℕ) (es done : List (ℕ × Item)) → has k done ≡ false → AllBut k es → has k (put_all done es) ≡ false
 lacks_after k [] done h all = h
 lacks_after k (e ∷ es) done h all = lacks_after k es (insert_entry nat_cmp done e.0 e.1) (has_put_other k e.0 e.1 done (λ same. all.0 (sym same)) ∙ h) all.1

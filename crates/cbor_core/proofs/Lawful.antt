@@ -48,29 +48,37 @@ module _ (P : Item → Type 0) where
 
 -- ---- one level of each definition
 
+-- a list nests one level deeper than the deepest of its items
 pub nesting-List : (is : List Item) → item_nesting (v.List is) ≡ suc (largest_over item_nesting is)
 nesting-List is = ap item_nesting (sym (v.rolls-List is)) ∙ fold-roll-Item ℕ nesting_step (Item-F.List is) ∙ ap suc (largest_over-map (λ (n : ℕ). n) item_nesting is)
 
+-- a map nests one level deeper than the deepest of its values
 pub nesting-Map : (ps : List (Pair Item)) → item_nesting (v.Map ps) ≡ suc (largest_over (λ p. item_nesting p.value) ps)
 unfolding seen
 nesting-Map ps = ap item_nesting (sym (v.rolls-Map ps)) ∙ fold-roll-Item ℕ nesting_step (Item-F.Map ps) ∙ ap suc (largest_over-map (λ (p : Pair ℕ). p.value) (seen item_nesting) ps)
 
+-- a whole number is one item
 pub count-Whole : (n : ℕ) → count_of (v.Whole n) ≡ 1
 count-Whole n = ap count_of (sym (v.rolls-Whole n)) ∙ fold-roll-Item ℕ count_step (Item-F.Whole n)
 
+-- a byte string is one item
 pub count-Blob : (bytes : List ℕ) → count_of (v.Blob bytes) ≡ 1
 count-Blob bytes = ap count_of (sym (v.rolls-Blob bytes)) ∙ fold-roll-Item ℕ count_step (Item-F.Blob bytes)
 
+-- a text is one item
 pub count-Text : (bytes : List ℕ) → count_of (v.Text bytes) ≡ 1
 count-Text bytes = ap count_of (sym (v.rolls-Text bytes)) ∙ fold-roll-Item ℕ count_step (Item-F.Text bytes)
 
+-- a list is one item more than its items are together
 pub count-List : (is : List Item) → count_of (v.List is) ≡ suc (sum_over count_of is)
 count-List is = ap count_of (sym (v.rolls-List is)) ∙ fold-roll-Item ℕ count_step (Item-F.List is) ∙ ap suc (sum_over-map (λ (n : ℕ). n) count_of is)
 
+-- a map is one item, and one for each key, and those of its values
 pub count-Map : (ps : List (Pair Item)) → count_of (v.Map ps) ≡ suc (sum_over (λ p. suc (count_of p.value)) ps)
 unfolding seen
 count-Map ps = ap count_of (sym (v.rolls-Map ps)) ∙ fold-roll-Item ℕ count_step (Item-F.Map ps) ∙ ap suc (sum_over-map (λ (p : Pair ℕ). suc p.value) (seen count_of) ps)
 
+-- the keys in a list rise where those in each of its items do
 pub rise-List : (is : List Item) → keys_rise (v.List is) ≡ list_all keys_rise is
 rise-List is = ap keys_rise (sym (v.rolls-List is)) ∙ fold-roll-Item Bool keys_rise_step (Item-F.List is) ∙ list_all-map (λ (b : Bool). b) keys_rise is
 
@@ -79,6 +87,7 @@ unfolding seen
 keys_seen g [] = refl
 keys_seen g (p ∷ ps) = ap (λ (z : List ℕ). p.key ∷ z) (keys_seen g ps)
 
+-- the keys in a map rise where its own do and those in each value do
 pub rise-Map : (ps : List (Pair Item)) → keys_rise (v.Map ps) ≡ (rise (map (λ (p : Pair Item). p.key) ps) && list_all (λ (p : Pair Item). keys_rise p.value) ps)
 unfolding seen
 rise-Map ps = ap keys_rise (sym (v.rolls-Map ps)) ∙ fold-roll-Item Bool keys_rise_step (Item-F.Map ps) ∙ rw (keys_seen keys_rise ps, list_all-map (λ (p : Pair Bool). p.value) (seen keys_rise) ps) refl
@@ -250,6 +259,7 @@ map_spelled ps e (suc levels) n r f =
     let text : encoding_of (v.Map ps) ≡ head_of 5 (length (entries_of ps)) ++ flat_map (λ (p : Pair Item). head_of 0 p.key ++ encoding_of p.value) ps = rw (same_length ps) (spelling-Map ps) in
     inr (inr (entries_of ps, sum_over (λ (p : Pair Item). suc (count_of p.value)) ps, flat_map (λ (p : Pair Item). head_of 0 p.key ++ encoding_of p.value) ps, is, keys_differ (entries_of ps) rising, long, entries_spelled levels ps e within a.1 o.1, count-Map ps, text))
 
+-- an item that fits, with keys that rise, is spelled by its encoding
 pub spelled : (item : Item) → Spelled item
 spelled = by_cases Spelled record {
   whole = λ n levels nest r f. flat_spells levels (v.Whole n) _ _ (count-Whole n) (inl (n, refl, (of-Whole n f, spelling-Whole n)));
@@ -259,5 +269,6 @@ spelled = by_cases Spelled record {
   pairs = map_spelled;
 }
 
+-- what a writer puts behind nothing spells the item, when it nests at most four levels
 pub is_spelled : (item : Item) (out start : List ℕ) → start ≡ [] → out ≡ start ++ encoding_of item → fits item ≡ true → keys_rise item ≡ true → item_nesting item ≤ 4 → Encodes 4 item (count_of item) out
 is_spelled item out start none is f r n = subst (λ (z : List ℕ). Encodes 4 item (count_of item) z) (sym (is ∙ ap (λ (z : List ℕ). z ++ encoding_of item) none)) (spelled item 4 n r f)

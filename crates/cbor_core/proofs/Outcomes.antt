@@ -13,6 +13,7 @@ err_of A E e = Err e
 pub same_ok : {A E : Type 0} (x y : A) → ok_of A E x ≡ ok_of A E y → x ≡ y
 same_ok x y e = cc
 
+-- two refusals that are equal have the same fault
 pub same_err : {A E : Type 0} (d e : E) → err_of A E d ≡ err_of A E e → d ≡ e
 same_err d e same = cc
 

@@ -24,6 +24,7 @@ use Rattle.cbor_core.proofs.Steps.{item_as_list, item_as_map, item_as_flat}
 abbrev pub EndsAt : ℕ → Rest → Type 0
 EndsAt total rest = total ≡ rest.at + length rest.bytes
 
+-- a truth value is true or false
 pub boolean : (b : Bool) → (b ≡ true) ⊎ (b ≡ false)
 boolean true = inl refl
 boolean false = inr refl
@@ -67,9 +68,11 @@ byte_stops total at (b ∷ bytes) e is h =
       | inr p ↦ absurd (cc p.1)
     ]
 
+-- the place where bytes begin, from the length of the whole input
 pub start_is : (total at b : ℕ) (bytes : List ℕ) → total ≡ at + suc (length bytes) → start_of total (b ∷ bytes) ≡ at
 start_is total at b bytes is = omega (arith, is)
 
+-- the reader refuses an argument that is refused, with the same fault
 pub argument_refused : (total at b : ℕ) (bytes : List ℕ) (e : CborFault) → total ≡ at + suc (length bytes) → RefusesArgument (b % 32) at bytes e → argument_at total (b ∷ bytes) ≡ Err e
 unfolding argument_at
 argument_refused total at b bytes e is (inl s) = rw (s.0, start_is total at b bytes is) (byte_refused total at bytes e (omega (arith, is)) s.1)
@@ -77,6 +80,7 @@ argument_refused total at b bytes e is (inr (inl s)) = rw (s.0, start_is total a
 argument_refused total at b bytes e is (inr (inr (inl s))) = rw (s.0, start_is total at b bytes is) (wide_refused total w32 (2 ^ 16) at bytes e (omega (arith, is)) s.1)
 argument_refused total at b bytes e is (inr (inr (inr s))) = rw (s.0, start_is total at b bytes is) (wide_refused total w64 (2 ^ 32) at bytes e (omega (arith, is)) s.1)
 
+-- a first byte with a code of 28 or more is refused as forbidden
 pub argument_indefinite : (total at b : ℕ) (bytes : List ℕ) → total ≡ at + suc (length bytes) → 28 ≤ b % 32 → argument_at total (b ∷ bytes) ≡ Err (f.Forbidden at)
 unfolding argument_at
 argument_indefinite total at b bytes is le =
@@ -86,6 +90,7 @@ argument_indefinite total at b bytes is le =
 abbrev pub ArgumentStops : ℕ → ℕ → List ℕ → CborFault → Type 0
 ArgumentStops at b bytes e = ((28 ≤ b % 32) × (e ≡ f.Forbidden at)) ⊎ ((b % 32 < 28) × RefusesArgument (b % 32) at bytes e)
 
+-- where the reader of arguments stops, the code is forbidden or the argument is refused
 pub argument_stops : (total at b : ℕ) (bytes : List ℕ) (e : CborFault) → total ≡ at + suc (length bytes) → argument_at total (b ∷ bytes) ≡ Err e → ArgumentStops at b bytes e
 unfolding argument_at
 argument_stops total at b bytes e is h =
@@ -130,6 +135,7 @@ argument_stops total at b bytes e is h =
 abbrev pub Kinds : ℕ → ℕ → Type 0
 Kinds levels m = (m ≡ 0) ⊎ ((m ≡ 2) ⊎ ((m ≡ 3) ⊎ (((0 < levels) × (m ≡ 4)) ⊎ ((0 < levels) × (m ≡ 5)))))
 
+-- a major type that an item may have is one of these
 pub kinds : (levels m : ℕ) → is_item levels m ≡ true → Kinds levels m
 kinds levels m h = elim (or_cases (eqb m 0) (eqb m 2 || (eqb m 3 || (ltb 0 levels && (eqb m 4 || eqb m 5)))) h) [
   | inl a ↦ inl (eqb-true m 0 a)
@@ -176,10 +182,12 @@ flat_is_whole : (total left : ℕ) (bytes : List ℕ) → flat_at total 0 left b
 unfolding flat_at
 flat_is_whole total left bytes = refl
 
+-- an item of major type 2 is read as a byte string
 pub flat_is_blob : (total left : ℕ) (bytes : List ℕ) → flat_at total 2 left bytes ≡ blob_at total left bytes
 unfolding flat_at
 flat_is_blob total left bytes = refl
 
+-- an item of major type 3 is read as a text
 pub flat_is_text : (total left : ℕ) (bytes : List ℕ) → flat_at total 3 left bytes ≡ text_string_at total left bytes
 unfolding flat_at
 flat_is_text total left bytes = refl
@@ -241,11 +249,13 @@ module _ (total left : ℕ) (some : 0 < left) (b : ℕ) (bytes : List ℕ) (leve
     | inr (inr (inr (inr m))) ↦ as_map m.0 m.1 ∙ map_at_head total (left - 1) (b ∷ bytes) e stops (item_at total (levels - 1))
   ]
 
+-- at the end of the input an item is cut short
 pub item_at_end : (total levels left : ℕ) → item_at total levels left [] ≡ Err (f.Truncated total)
 unfolding item_at
 item_at_end total zero left = refl
 item_at_end total (suc n) left = refl
 
+-- where no item more may begin, the next is one too many
 pub item_at_full : (total levels b : ℕ) (bytes : List ℕ) → item_at total levels 0 (b ∷ bytes) ≡ Err f.TooMany
 unfolding item_at
 item_at_full total zero b bytes = refl
@@ -279,9 +289,11 @@ item_head_refused total levels left at (b ∷ bytes) e is (inr (inr s)) =
 abbrev pub rest_at : ℕ → ℕ → List ℕ → Rest
 rest_at left at bytes = record { left = left; at = at; bytes = bytes }
 
+-- behind an empty front without items nothing has changed
 pub behind_none : (rest : Rest) → IsBehind rest 0 [] rest
 behind_none rest = record { left = omega arith; at = omega arith; bytes = refl }
 
+-- behind one front and then another is behind both together
 pub behind_then : (rest mid back : Rest) (m n : ℕ) (front more : List ℕ) → IsBehind rest m front mid → IsBehind mid n more back → IsBehind rest (m + n) (front ++ more) back
 behind_then rest mid back m n front more a b = record {
   left = omega (arith, a.left, b.left);
@@ -289,6 +301,7 @@ behind_then rest mid back m n front more a b = record {
   bytes = a.bytes ∙ ap (λ (z : List ℕ). front ++ z) b.bytes ∙ sym (append_assoc front more back.bytes);
 }
 
+-- what is left behind a front ends where the whole input does
 pub ends_behind : (total : ℕ) (rest back : Rest) (count : ℕ) (front : List ℕ) → EndsAt total rest → IsBehind rest count front back → EndsAt total back
 ends_behind total rest back count front ends b =
     let long : length rest.bytes ≡ length front + length back.bytes = ap length b.bytes ∙ length-append front back.bytes in
@@ -303,6 +316,7 @@ pub record HeadRead (total major n : ℕ) (rest : Rest) (behind : List ℕ) : Ty
   pub ends : EndsAt total back
   pub fits : IsBytes behind
 
+-- an argument that was read has its head before what is left
 pub head_read : (total left at b n : ℕ) (bytes behind : List ℕ) → EndsAt total (rest_at left at (b ∷ bytes)) → 0 < left → IsBytes (b ∷ bytes) → argument_at total (b ∷ bytes) ≡ Ok (n, behind) → HeadRead total (b / 32) n (rest_at left at (b ∷ bytes)) behind
 head_read total left at b n bytes behind ends some h e =
     let head = argument_takes total (b ∷ bytes) n behind h e in
@@ -316,6 +330,7 @@ head_again total major n rest back s = ap (argument_at total) s.1.bytes ∙ argu
 
 -- ---- strings
 
+-- the reader refuses a string that is cut short, with the same fault
 pub string_refused : (total major : ℕ) (rest : Rest) (e : CborFault) → EndsAt total rest → RefusesString major rest e → string_at total rest.bytes ≡ Err e
 unfolding string_at
 string_refused total major rest e ends s =
@@ -324,6 +339,7 @@ string_refused total major rest e ends s =
     let end = ends_behind total rest back 1 (head_of major n) ends s.2.1 in
     rw (head_again total major n rest back s.2, lt-ltb (length back.bytes) n s.3, s.4) (ap (λ (k : ℕ). Err (f.Truncated k)) end)
 
+-- where the reader of strings stops, it stops at the argument or the string is cut short
 pub string_stops : (total left at b : ℕ) (bytes : List ℕ) (e : CborFault) → EndsAt total (rest_at left at (b ∷ bytes)) → 0 < left → IsBytes (b ∷ bytes) → string_at total (b ∷ bytes) ≡ Err e
     → (argument_at total (b ∷ bytes) ≡ Err e) ⊎ RefusesString (b / 32) (rest_at left at (b ∷ bytes)) e
 unfolding string_at
@@ -342,14 +358,17 @@ string_stops total left at b bytes e ends some h stops =
           ]
     ]
 
+-- where the string is refused, the byte string is refused with the same fault
 pub blob_refused : (total left : ℕ) (bytes : List ℕ) (e : CborFault) → string_at total bytes ≡ Err e → blob_at total left bytes ≡ Err e
 unfolding blob_at
 blob_refused total left bytes e h = rw h refl
 
+-- where the string is refused, the text is refused with the same fault
 pub text_refused_cut : (total left : ℕ) (bytes : List ℕ) (e : CborFault) → string_at total bytes ≡ Err e → text_string_at total left bytes ≡ Err e
 unfolding text_string_at
 text_refused_cut total left bytes e h = rw h refl
 
+-- where a byte string is refused, its string is refused with the same fault
 pub blob_stops : (total left : ℕ) (bytes : List ℕ) (e : CborFault) → blob_at total left bytes ≡ Err e → string_at total bytes ≡ Err e
 unfolding blob_at
 blob_stops total left bytes e h = elim (stopped (string_at total bytes) (λ s. Ok (v.Blob s.0, left, s.1)) e h) [
@@ -357,6 +376,7 @@ blob_stops total left bytes e h = elim (stopped (string_at total bytes) (λ s. O
   | inr p ↦ absurd (cc p.2)
 ]
 
+-- the reader refuses a text that is all there and not UTF-8
 pub text_refused_whole : (total left : ℕ) (rest : Rest) (e : CborFault) → EndsAt total rest → RefusesText rest e → text_string_at total left rest.bytes ≡ Err e
 unfolding text_string_at
 text_refused_whole total left rest e ends s =
@@ -367,6 +387,7 @@ text_refused_whole total left rest e ends s =
     let start : start_of total rest.bytes ≡ rest.at = omega (arith, ends) in
     rw (read, not_utf8 content s.5, start, s.6) refl
 
+-- where a text is refused, its string is refused, or it is all there and not UTF-8
 pub text_stops : (total left at b : ℕ) (bytes : List ℕ) (e : CborFault) → EndsAt total (rest_at left at (b ∷ bytes)) → 0 < left → b / 32 ≡ 3 → IsBytes (b ∷ bytes) → text_string_at total (left - 1) (b ∷ bytes) ≡ Err e
     → (string_at total (b ∷ bytes) ≡ Err e) ⊎ RefusesText (rest_at left at (b ∷ bytes)) e
 unfolding text_string_at

@@ -81,6 +81,7 @@ inside_refused total levels so rest e ends s =
           item_as_map total rest.left b.some rest.bytes (suc levels) b.full (omega arith) b.is ∙ rw (k, less) (map_refused total (item_at total levels) (Encodes levels) (RefusesItem levels) (item_again total levels) so n rest back e ends r.0 r.1)
     ]
 
+-- the reader of items refuses what the specification refuses, with the same fault
 pub item_refused : (total levels : ℕ) → RefusedSo total (item_at total levels) (RefusesItem levels)
 unfolding RefusesItem
 item_refused total zero rest e ends (inl s) = item_head_refused total 0 rest.left rest.at rest.bytes e ends s
@@ -192,6 +193,7 @@ module _ (total levels inside : ℕ) (is : levels - 1 ≡ inside) (so : 0 < leve
         inl (inr (inl (omega arith, not_begun, sym same ∙ ap (λ (n : ℕ). f.Forbidden n) (start_is total at b bytes ends))))
   ]
 
+-- what the reader of items refuses, the specification refuses with the same fault
 pub item_stops : (total levels : ℕ) → StopsSo total (item_at total levels) (RefusesItem levels)
 unfolding RefusesItem
 item_stops total zero rest e ends h stops =

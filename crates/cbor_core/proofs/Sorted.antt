@@ -177,6 +177,7 @@ module _ (levels : ℕ) (keeps : Keeps levels) where
         keys = rise-Map (pairs_of es) ∙ rw (rising_rise es (rising_all s.0 [] tt), pairs_rise levels es values) refl;
       })
 
+-- an item that is spelled keeps to the levels and the count, and its keys rise
 pub kept : (levels : ℕ) → Keeps levels
 unfolding Encodes
 kept zero item count bytes s = flat_kept 0 item count bytes s.1 s.0

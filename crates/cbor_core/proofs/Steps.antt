@@ -25,6 +25,7 @@ neq-eqb a b ne = isnt_true (eqb a b) (λ e. ne (eqb-true a b e))
 
 -- ---- texts
 
+-- bytes that are not UTF-8 fail the test for it
 pub text_refused : (bytes : List ℕ) → ¬ (IsUtf8 bytes) → is_utf8 bytes ≡ false
 text_refused bytes h = isnt_true (is_utf8 bytes) (λ e. h (IsUtf8-from_is_utf8 bytes e))
 
@@ -110,6 +111,7 @@ pub ruleset entries_steps = (entries_more, entries_key_fails, entries_repeated, 
 
 -- ---- the pairs of a map
 
+-- to put the next pair behind those that are done leaves all pairs the same
 pub pairs_more : (done : List (Pair Item)) (key : ℕ) (value : Item) (entries : List (ℕ × Item)) (whole : List (Pair Item)) → done ++ pairs_of ((key, value) ∷ entries) ≡ whole → (done ++ (record { key = key; value = value }) ∷ []) ++ pairs_of entries ≡ whole
 pairs_more done key value entries whole h = append_assoc done ((record { key = key; value = value }) ∷ []) (pairs_of entries) ∙ h
 
@@ -142,12 +144,14 @@ module _ (total left : ℕ) (some : 0 < left) where
       let m5 : eqb (b / 32) 5 ≡ false = neq-eqb (b / 32) 5 (n5 (omega arith)) in
       rw (left_some, m4, m5) refl
 
+-- where no byte is left an item is cut short
 pub item_at_end : (total levels left : ℕ) (bytes : List ℕ) → length bytes < 1 → item_at total levels left bytes ≡ Err (f.Truncated total)
 unfolding item_at
 item_at_end total zero left [] is = refl
 item_at_end total (suc n) left [] is = refl
 item_at_end total levels left (b ∷ bytes) is = absurd (omega arith)
 
+-- where bytes are left and no item more may begin, the next is one too many
 pub item_too_many : (total levels left : ℕ) (bytes : List ℕ) → 0 < length bytes → left ≡ 0 → item_at total levels left bytes ≡ Err f.TooMany
 unfolding item_at
 item_too_many total levels left [] has none = absurd (omega arith)

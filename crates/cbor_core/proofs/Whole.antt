@@ -40,15 +40,19 @@ by_found : (bytes : List ℕ) (result : Result Item CborFault) (P : Item → Typ
 by_found bytes (Ok item) P p h g = p item (found bytes item h g)
 by_found bytes (Err e) P p h g = tt
 
+-- the keys in an item that was read rise
 pub keys_by : (bytes : List ℕ) (result : Result Item CborFault) → IsBytes bytes → Gives is_memory (λ x. x) result (reading bytes) → IfOk result (λ (item : Item). keys_rise item ≡ true)
 keys_by bytes result = by_found bytes result (λ (item : Item). keys_rise item ≡ true) (λ item s. (kept 4 item s.0 bytes s.2).keys)
 
+-- an item that was read nests at most four levels
 pub nesting_by : (bytes : List ℕ) (result : Result Item CborFault) → IsBytes bytes → Gives is_memory (λ x. x) result (reading bytes) → IfOk result (λ (item : Item). item_nesting item ≤ 4)
 nesting_by bytes result = by_found bytes result (λ (item : Item). item_nesting item ≤ 4) (λ item s. (kept 4 item s.0 bytes s.2).nesting)
 
+-- an item that was read has at most 100,000 items in all
 pub count_by : (bytes : List ℕ) (result : Result Item CborFault) → IsBytes bytes → Gives is_memory (λ x. x) result (reading bytes) → IfOk result (λ (item : Item). count_of item ≤ 100000)
 count_by bytes result = by_found bytes result (λ (item : Item). count_of item ≤ 100000) (λ item s. subst (λ (n : ℕ). n ≤ 100000) (sym (kept 4 item s.0 bytes s.2).counted) s.1)
 
+-- an item that was read is spelled by the input
 pub found_by : (bytes : List ℕ) (result : Result Item CborFault) → IsBytes bytes → Gives is_memory (λ x. x) result (reading bytes) → IfOk result (λ (item : Item). Encodes 4 item (count_of item) bytes)
 found_by bytes result = by_found bytes result (λ (item : Item). Encodes 4 item (count_of item) bytes) (found_spelled bytes)
 
@@ -59,9 +63,11 @@ front bytes text rest item count le s e =
     let one : item_at (length bytes) 4 100000 bytes ≡ Ok (item, 100000 - count, rest) = ap (item_at (length bytes) 4 100000) e ∙ item_again (length bytes) 4 100000 item count text rest s le in
     rw one refl
 
+-- an input that spells an item reads as that item
 pub read_again : (bytes : List ℕ) (item : Item) (count : ℕ) → count ≤ 100000 → Encodes 4 item count bytes → reading bytes ≡ Ok item
 read_again bytes item count le s = front bytes bytes [] item count le s (sym (append-nil bytes))
 
+-- an input that spells an item and goes on is refused at the first byte behind it
 pub read_trailing : (bytes : List ℕ) (item : Item) (count n : ℕ) → n < length bytes → count ≤ 100000 → Encodes 4 item count (take n bytes) → reading bytes ≡ Err (f.Trailing n)
 read_trailing bytes item count n lt le s =
     let some : eqb (length (drop n bytes)) 0 ≡ false = ne_eqb _ _ (λ e. absurd (omega (arith, length-drop n bytes))) in
@@ -80,6 +86,7 @@ one_item levels m n i j a b x y s t e =
 
 -- ---- what is refused
 
+-- an input that is refused reads as its fault
 pub refused_read : (bytes : List ℕ) (e : CborFault) → IsRefused bytes e → reading bytes ≡ Err e
 unfolding reading
 refused_read bytes e (inl r) = rw (item_refused (length bytes) 4 (input_of bytes) e (omega arith) r) refl
@@ -89,6 +96,7 @@ refused_read bytes e (inr t) =
     let place : start_of (length bytes) back ≡ length t.2 = omega (arith, ap length t.6, length-append t.2 back) in
     front bytes t.2 back t.0 t.1 t.4 t.5 t.6 ∙ rw (some, place, t.8) refl
 
+-- an input that reads as a fault is refused with it
 pub read_refused : (bytes : List ℕ) (e : CborFault) → IsBytes bytes → reading bytes ≡ Err e → IsRefused bytes e
 unfolding reading
 read_refused bytes e h stops =
@@ -108,10 +116,12 @@ read_refused bytes e h stops =
           ]
     ]
 
+-- an input reads as the outcome that the specification gives it
 pub read_as : (bytes : List ℕ) (outcome : Result Item CborFault) → ReadsAs bytes outcome → reading bytes ≡ outcome
 read_as bytes (Ok item) s = read_again bytes item s.0 s.1 s.2
 read_as bytes (Err e) s = refused_read bytes e s
 
+-- what an input reads as is its outcome in the specification
 pub reads_as : (bytes : List ℕ) (outcome : Result Item CborFault) → IsBytes bytes → reading bytes ≡ outcome → ReadsAs bytes outcome
 reads_as bytes (Ok item) h e = found bytes item h e
 reads_as bytes (Err d) h e = read_refused bytes d h e
@@ -140,9 +150,11 @@ pub gives_reading : (result read : Result Item CborFault) → Gives is_memory (�
 gives_reading (Ok x) read g ne = g
 gives_reading (Err e) read g ne = subst (λ (b : Bool). Unless b (read ≡ Err e)) (not_memory e (λ same. ne (λ i. Err (same i)))) g
 
+-- what a call that did not run out of memory gives is the outcome of its input
 pub reads_by : (bytes : List ℕ) (result : Result Item CborFault) → IsBytes bytes → Gives is_memory (λ x. x) result (reading bytes) → result ≢ Err f.Memory → ReadsAs bytes result
 reads_by bytes result h g ne = reads_as bytes result h (gives_reading result (reading bytes) g ne)
 
+-- a call gives the outcome of its input, unless it runs out of memory
 pub exact_by : (bytes : List ℕ) (result outcome : Result Item CborFault) → ReadsAs bytes outcome → Gives is_memory (λ x. x) result (reading bytes) → UnlessMemory f.Memory outcome result
 exact_by bytes result outcome s g ne = sym (gives_reading result (reading bytes) g ne) ∙ read_as bytes outcome s
 

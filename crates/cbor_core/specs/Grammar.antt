@@ -79,8 +79,8 @@ EncodesList spells item count bytes =
     × (length items < 2 ^ 64) × EncodesEach spells items n rest × (count ≡ suc n)
     × (bytes ≡ head_of 4 (length items) ++ rest)
 
--- a map: major type 5 with the number of its entries, and then these, in any order of keys; the item
--- has its pairs by rising key
+-- a map: major type 5 with the number of its entries, and then these, in any order of keys; the
+-- item has its pairs by rising key
 abbrev pub EncodesMap : (Item → ℕ → List ℕ → Type 0) → Item → ℕ → List ℕ → Type 0
 EncodesMap spells item count bytes =
     (entries : List (ℕ × Item)) × (n : ℕ) × (rest : List ℕ)
@@ -88,8 +88,8 @@ EncodesMap spells item count bytes =
     × (length entries < 2 ^ 64) × EncodesEntries spells entries n rest × (count ≡ suc n)
     × (bytes ≡ head_of 5 (length entries) ++ rest)
 
--- The bytes spell the item, in which lists and maps nest at most `levels` deep, and with which there
--- are `count` items, those inside and the keys of maps counted.
+-- The bytes spell the item, in which lists and maps nest at most `levels` deep, and with which
+-- there are `count` items, those inside and the keys of maps counted.
 unfoldable pub Encodes : ℕ → Item → ℕ → List ℕ → Type 0
 Encodes zero item count bytes = EncodesFlat item bytes × (count ≡ 1)
 Encodes (suc levels) item count bytes =

@@ -1,6 +1,7 @@
--- Which input is refused, and as what: the first fault from left to right, with whole items before it.
--- At one head come, in this order: that an item more may begin, what the first byte shows, the end of
--- the argument, and that the argument is the shortest (RFC 8949, 3 and 4.2.1). Then comes the content.
+-- Which input is refused, and as what: the first fault from left to right, with whole items before
+-- it. At one head come, in this order: that an item more may begin, what the first byte shows, the
+-- end of the argument, and that the argument is the shortest (RFC 8949, 3 and 4.2.1). Then comes
+-- the content.
 use Rattle.std.specs.Prelude.{◌≡◌, ◌≢◌, ℕ, zero, suc, ◌+◌, ◌/◌, ◌%◌, ◌^◌, ◌≤◌, ◌<◌, List, [], ◌∷◌, ◌++◌, length, take, Bool, true, false, ◌&&◌, ◌||◌, ◌==◌, nat_lt, ◌⊎◌, Result, Ok, Err}
 use Rattle.std.specs.Int.{Width, w8, w16, w32, w64, byte_len, from_be_bytes}
 use Rattle.std.specs.List.{AllByRecursion}
@@ -39,8 +40,8 @@ RefusesWidth w least at bytes fault =
     ⊎ ((byte_len w ≤ length bytes) × (from_be_bytes w (take (byte_len w) bytes) < least)
     × (fault ≡ NotShortest at))
 
--- The argument behind a first byte at `at` is refused. The five low bits of that byte are the argument
--- below 24, and 24 to 27 say how wide it is (RFC 8949, 3); its least value is 4.2.1's.
+-- The argument behind a first byte at `at` is refused. The five low bits of that byte are the
+-- argument below 24, and 24 to 27 say how wide it is (RFC 8949, 3); its least value is 4.2.1's.
 abbrev pub RefusesArgument : ℕ → ℕ → List ℕ → CborFault → Type 0
 RefusesArgument code at bytes fault =
     ((code ≡ 24) × RefusesWidth w8 24 at bytes fault)
@@ -90,7 +91,8 @@ RefusesText rest fault =
 
 -- Below, `Refuses` is what refuses an item inside a list or map, and `spells` what spells one.
 -- So many items are to come: some are there, fewer than these, and the next is refused.
-abbrev pub RefusesEach : (Rest → CborFault → Type 0) → (Item → ℕ → List ℕ → Type 0) → ℕ → Rest → CborFault → Type 0
+abbrev pub RefusesEach :
+    (Rest → CborFault → Type 0) → (Item → ℕ → List ℕ → Type 0) → ℕ → Rest → CborFault → Type 0
 RefusesEach Refuses spells n rest fault =
     (items : List Item) × (count : ℕ) × (front : List ℕ) × (back : Rest) × (length items < n)
     × EncodesEach spells items count front × IsBehind rest count front back × Refuses back fault
@@ -108,14 +110,16 @@ RefusesEntry Refuses entries rest fault =
     ⊎ (LacksKey key entries × Refuses back fault)))
 
 -- So many entries are to come: some are there, with keys that differ, and the next is refused.
-abbrev pub RefusesEntries : (Rest → CborFault → Type 0) → (Item → ℕ → List ℕ → Type 0) → ℕ → Rest → CborFault → Type 0
+abbrev pub RefusesEntries :
+    (Rest → CborFault → Type 0) → (Item → ℕ → List ℕ → Type 0) → ℕ → Rest → CborFault → Type 0
 RefusesEntries Refuses spells n rest fault =
     (entries : List (ℕ × Item)) × (count : ℕ) × (front : List ℕ) × (back : Rest)
     × (length entries < n) × KeysDiffer entries × EncodesEntries spells entries count front
     × IsBehind rest count front back × RefusesEntry Refuses entries back fault
 
 -- something in a list or a map is refused
-abbrev pub RefusesInside : (Rest → CborFault → Type 0) → (Item → ℕ → List ℕ → Type 0) → Rest → CborFault → Type 0
+abbrev pub RefusesInside :
+    (Rest → CborFault → Type 0) → (Item → ℕ → List ℕ → Type 0) → Rest → CborFault → Type 0
 RefusesInside Refuses spells rest fault =
     (n : ℕ) × (back : Rest)
     × ((IsBehindHead 4 n rest back × RefusesEach Refuses spells n back fault)

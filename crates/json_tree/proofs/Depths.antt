@@ -24,6 +24,7 @@ mutual
   members_levels no_members = refl
   members_levels (member k d ms) = rw (levels_of-tree_of d, members_levels ms) refl
 
+-- the tree of a value nests as deep as the value, and at least one level
 pub nesting_of-tree_of : (d : Data) → nesting_of (tree_of d) ≡ max 1 (depth d)
 nesting_of-tree_of d = ap (max 1) (levels_of-tree_of d)
 
@@ -34,6 +35,7 @@ is_shallow_enough d true is test =
     rw (nesting_of-tree_of d) (omega arith)
 is_shallow_enough d false is test = absurd (cc)
 
+-- a value that the test refuses has a tree that nests beyond the limit
 pub is_over_the_limit : (d : Data) (within : Bool) → within ≡ nat_le (depth d) 100 → within ≡ false → nesting_limit < nesting_of (tree_of d)
 is_over_the_limit d false is test =
     let over : 100 < depth d = grind (arith, nat_tests) in

@@ -5,9 +5,11 @@ use Rattle.std.proofs.lemmas.Bool.Decides.{nat_tests}
 use lib.Utf8.{encode, next}
 use Rattle.json_tree.specs.Places.{escaped}
 
+-- a character that is neither `~` nor `/` stands for itself
 pub escaped-other : (c : ℕ) → c ≢ 126 → c ≢ 47 → escaped c ≡ c ∷ []
 escaped-other c a b = grind (arith, nat_tests)
 
+-- bytes of 128 and above stand for themselves
 pub escaped-others : (bytes : List ℕ) → AllByRecursion (λ c. 128 ≤ c) bytes → flat_map escaped bytes ≡ bytes
 escaped-others [] all = refl
 escaped-others (c ∷ cs) all = rw (escaped-other c (omega arith) (omega arith)) (ap (λ xs. c ∷ xs) (escaped-others cs all.1))
@@ -25,6 +27,7 @@ narrow : (c : ℕ) → ltb c 128 ≡ true → encode c ≡ c ∷ []
 unfolding encode
 narrow c e = rw e refl
 
+-- the UTF-8 of a character that is neither `~` nor `/` stands for itself
 pub escaped-encode : (c : ℕ) → c ≢ 126 → c ≢ 47 → flat_map escaped (encode_utf8 c) ≡ encode_utf8 c
 escaped-encode c a b = go (ltb c 128) refl
   where

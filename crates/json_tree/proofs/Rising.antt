@@ -19,10 +19,12 @@ pub left_of : (a b : Bool) → (a && b) ≡ true → a ≡ true
 left_of true b h = refl
 left_of false b h = absurd (cc)
 
+-- both hold, so the second does
 pub right_of : (a b : Bool) → (a && b) ≡ true → b ≡ true
 right_of true b h = h
 right_of false b h = absurd (cc)
 
+-- where each of two holds, both do
 pub both_hold : (a b : Bool) → a ≡ true → b ≡ true → (a && b) ≡ true
 both_hold a b p q = rw (p, q)
 
@@ -32,6 +34,7 @@ each_next-map f test [] = refl
 each_next-map f test (x ∷ []) = refl
 each_next-map f test (x ∷ (y ∷ ys)) = ap (λ b. test (f x) (f y) && b) (each_next-map f test (y ∷ ys))
 
+-- what holds of neighbours in a list holds behind its first element
 pub each_next-tail : {X : Type 0} (test : X → X → Bool) (x : X) (xs : List X) → each_next test (x ∷ xs) ≡ true → each_next test xs ≡ true
 each_next-tail test x [] h = refl
 each_next-tail test x (y ∷ ys) h = right_of (test x y) _ h
@@ -45,6 +48,7 @@ each_next-at test (x ∷ (y ∷ ys)) (suc k) d h l = each_next-at test (y ∷ ys
 
 -- ---- the order of names
 
+-- an order that passes the test for less is less
 pub is_less : (o : Ordering) → is_lt o ≡ true → o ≡ Less
 is_less Less h = refl
 is_less Equal h = absurd (cc)
@@ -62,6 +66,7 @@ is_before-differs a b p = sym (is_eq-slice_cmp a b) ∙ ap is_eq (is_less _ p)
 abbrev pub NamesRise : List (Member Tree) → Type 0
 NamesRise members = each_next (λ m n. is_before m.key n.key) members ≡ true
 
+-- where names rise, the first comes before each later one
 pub first_is_before : (m : Member Tree) (ms : List (Member Tree)) (k : ℕ) (d : Member Tree) → NamesRise (m ∷ ms) → k < length ms → is_before m.key (get_or ms k d).key ≡ true
 first_is_before m [] k d h l = absurd (omega arith)
 first_is_before m (n ∷ ns) zero d h l = left_of (is_before m.key n.key) _ h
@@ -79,6 +84,7 @@ find_at_name (m ∷ ms) zero d h l = rw (bytes_eq-itself m.key)
 find_at_name (m ∷ ms) (suc k) d h l =
     rw (is_before-differs m.key (get_or ms k d).key (first_is_before m ms k d h (omega arith))) (find_at_name ms k d (each_next-tail _ m ms h) (omega arith))
 
+-- where no member has the name, none is found
 pub find_absent : (ms : List (Member Tree)) (key : List ℕ) → ((k : ℕ) (d : Member Tree) → k < length ms → bytes_eq (get_or ms k d).key key ≡ false) → find (λ m. bytes_eq m.key key) ms ≡ None
 find_absent [] key h = refl
 find_absent (m ∷ ms) key h = rw (h 0 m (omega arith)) (find_absent ms key (λ k d l. h (suc k) d (omega arith)))
@@ -92,11 +98,13 @@ rises_sorted ms h k d low high =
     let b = (get_or ms (suc k) d).key in
     rw add-one (ap is_lt (nat_list_cmp_total.antisymm b a ∙ ap ordering_reverse (is_less _ (each_next-at (λ m n. is_before m.key n.key) ms k d h (omega arith)))))
 
+-- where names rise, the member at which a search ends is the one found by its name
 pub find_found : (ms : List (Member Tree)) (key : List ℕ) (at : ℕ) (x : Member Tree) → NamesRise ms → at < length ms → HoldsAt (λ m. slice_cmp nat_cmp m.key key ≡ Equal) ms at → find (λ m. bytes_eq m.key key) ms ≡ Some (get_or ms at x)
 find_found ms key at x rise within equal =
     let same : (get_or ms at x).key ≡ key = (bytes_eq-Decides (get_or ms at x).key key).0 (sym (is_eq-slice_cmp (get_or ms at x).key key) ∙ ap is_eq (equal x)) in
     subst (λ (k : List ℕ). find (λ m. bytes_eq m.key k) ms ≡ Some (get_or ms at x)) same (find_at_name ms at x rise within)
 
+-- where all names come before or after the one sought, none is found
 pub find_nowhere : (ms : List (Member Tree)) (key : List ℕ) (at : ℕ) → AllWithin (λ m. slice_cmp nat_cmp m.key key ≡ Less) ms 0 at → AllWithin (λ m. slice_cmp nat_cmp m.key key ≡ Greater) ms at (length ms) → find (λ m. bytes_eq m.key key) ms ≡ None
 find_nowhere ms key at low high =
     find_absent ms key (λ k d l. sym (is_eq-slice_cmp (get_or ms k d).key key) ∙ elim (cases_lt k at) [ inl h ↦ ap is_eq (low k d (omega arith) h) | inr h ↦ ap is_eq (high k d h l) ])
@@ -114,6 +122,7 @@ pub record Stands (ms : List (Member Tree)) (key : List ℕ) (value : Tree) : Ty
   pub named : (d : Member Tree) → (get_or ms place d).key ≡ key
   pub valued : (d : Member Tree) → (get_or ms place d).value ≡ value
 
+-- a value found at a name is that of a member that stands in the list
 pub value_of-Some : (ms : List (Member Tree)) (key : List ℕ) (value : Tree) → value_of key ms ≡ Some value → Stands ms key value
 value_of-Some [] key value h = absurd (cc)
 value_of-Some (m ∷ ms) key value h =

@@ -43,6 +43,7 @@ members_back : (ms : List (Member Tree)) → Each (λ (m : Member Tree). ReadsBa
 members_back [] e = refl
 members_back (m ∷ ms) e = rw (e.0, members_back ms e.1) refl
 
+-- the value of a tree reads as the tree renumbered
 pub tree_of-data_of : (t : Tree) → tree_of (data_of t) ≡ renumbered t
 tree_of-data_of = by_cases ReadsBack record {
   null = ap tree_of data_of-Null ∙ sym renumbered-Null;
@@ -70,6 +71,7 @@ depth_members : (ms : List (Member Tree)) → Each (λ (m : Member Tree). HasDep
 depth_members [] e = refl
 depth_members (m ∷ ms) e = rw (e.0, depth_members ms e.1) refl
 
+-- the value of a tree nests as many levels as the tree has
 pub depth-data_of : (t : Tree) → depth (data_of t) ≡ levels_of t
 depth-data_of = by_cases HasDepth record {
   null = ap depth data_of-Null ∙ sym levels_of-Null;
@@ -107,6 +109,7 @@ members_stay (m ∷ ms) e h =
     let here : misplaced (renumbered m.value) (is_version_key m.key) ≡ None = e.0 (is_version_key m.key) (none_first (misplaced m.value (is_version_key m.key)) (first_in_members ms) (Key m.key) h) in
     rw here (members_stay ms e.1 (none_later (misplaced m.value (is_version_key m.key)) (first_in_members ms) (Key m.key) h))
 
+-- to number a tree anew misplaces nothing
 pub misplaced-renumbered : (t : Tree) (named : Bool) → misplaced t named ≡ None → misplaced (renumbered t) named ≡ None
 misplaced-renumbered = by_cases StaysPlaced record {
   null = λ named h. ap (λ t. misplaced t named) renumbered-Null ∙ h;
@@ -124,6 +127,7 @@ nothing_there : (o : Option (List Step)) → is_none o ≡ true → o ≡ None
 nothing_there (Some p) h = absurd (cc)
 nothing_there None h = refl
 
+-- a tree numbered anew has as many levels
 pub levels_of-renumbered : (t : Tree) → levels_of (renumbered t) ≡ levels_of t
 levels_of-renumbered t = ap levels_of (sym (tree_of-data_of t)) ∙ levels_of-tree_of (data_of t) ∙ depth-data_of t
 

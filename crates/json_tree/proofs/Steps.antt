@@ -36,6 +36,7 @@ entries_rise [] s = refl
 entries_rise (a ∷ []) s = refl
 entries_rise (a ∷ (b ∷ es)) s = both_hold (is_before (string_bytes a.0) (string_bytes b.0)) _ (ap is_lt s.0.0) (entries_rise (b ∷ es) s.1)
 
+-- elements made of an array's values make a list, which is the array's tree
 pub list_made : (ds : Items) (es : List (Item Tree)) → AreElementsOf ds es → IsTreeOf (array ds) (v.List es)
 list_made ds es made = record {
   is = ap v.List made.is;
@@ -43,6 +44,7 @@ list_made ds es made = record {
   in_range = is_in_range-List es ∙ made.in_range;
 }
 
+-- members made of an object's entries make an object, which is the object's tree
 pub object_made : (ms : Members) (members : List (Member Tree)) → AreEntriesOf ms members → IsTreeOf (object ms) (v.Object members)
 object_made ms members made = record {
   is = ap v.Object made.is;
@@ -54,6 +56,7 @@ object_made ms members made = record {
 pub list_read : (value : Value) (items : Vec Value Global) (values : List Value) (es : List (Item Tree)) → value ≡ reader.Array items → values ≡ items.items → AreElementsOf (items_view values) es → IsTreeOf (view value) (v.List es)
 list_read value items values es is same made = rw (is, view-Array, ← same) (list_made (items_view values) es made)
 
+-- the same of an object of the reader's
 pub object_read : (value : Value) (map : BTreeMap (String Global) Value) (members : List (Member Tree)) → value ≡ reader.Object map → AreEntriesOf (members_view map.entries) members → IsTreeOf (view value) (v.Object members)
 object_read value map members is made = rw (is, view-Object) (object_made (members_view map.entries) members made)
 

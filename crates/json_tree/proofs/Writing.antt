@@ -21,23 +21,29 @@ use Rattle.json_tree.proofs.Equations.{is_in_range-Whole, is_in_range-List, is_i
 
 -- ---- what is asked of each value inside
 
+-- what all elements pass, the one at a place passes
 pub passes_at : {X : Type 0} (test : X → Bool) (xs : List X) (k : ℕ) (x : X) → list_all test xs ≡ true → k < length xs → x ≡ get_or xs k x → test x ≡ true
 passes_at test [] k x all l is = absurd (omega arith)
 passes_at test (y ∷ ys) zero x all l is = ap test is ∙ left_of (test y) _ all
 passes_at test (y ∷ ys) (suc k) x all l is = passes_at test ys k x (right_of (test y) _ all) (omega arith) is
 
+-- where all elements are in range, the one at a place is
 pub item_is_in_range : (items : List (Item Tree)) (k : ℕ) (i : Item Tree) → list_all (λ i. is_in_range i.value) items ≡ true → k < length items → i ≡ get_or items k i → is_in_range i.value ≡ true
 item_is_in_range items k i all l is = passes_at (λ i. is_in_range i.value) items k i all l is
 
+-- where all members' values are in range, that of the one at a place is
 pub member_is_in_range : (members : List (Member Tree)) (k : ℕ) (m : Member Tree) → list_all (λ m. is_in_range m.value) members ≡ true → k < length members → m ≡ get_or members k m → is_in_range m.value ≡ true
 member_is_in_range members k m all l is = passes_at (λ m. is_in_range m.value) members k m all l is
 
+-- the elements of a list that is in range are in range
 pub items_are_in_range : (t : Tree) (items seen : List (Item Tree)) → is_in_range t ≡ true → t ≡ v.List items → seen ≡ items → list_all (λ i. is_in_range i.value) seen ≡ true
 items_are_in_range t items seen ranged is same = ap (list_all (λ i. is_in_range i.value)) same ∙ sym (is_in_range-List items) ∙ ap is_in_range (sym is) ∙ ranged
 
+-- the members' values of an object that is in range are in range
 pub members_are_in_range : (t : Tree) (members seen : List (Member Tree)) → is_in_range t ≡ true → t ≡ v.Object members → seen ≡ members → list_all (λ m. is_in_range m.value) seen ≡ true
 members_are_in_range t members seen ranged is same = ap (list_all (λ m. is_in_range m.value)) same ∙ sym (is_in_range-Object members) ∙ ap is_in_range (sym is) ∙ ranged
 
+-- 64 bits hold a whole number that is in range, with a sign or without
 pub number_is_in_range : (t : Tree) (z : ℤ) → is_in_range t ≡ true → t ≡ v.Whole z → is_64_bits z ≡ true
 number_is_in_range t z ranged is = sym (is_in_range-Whole z) ∙ ap is_in_range (sym is) ∙ ranged
 
@@ -70,7 +76,7 @@ items_written items k old opened done closed opens same so kept at_end closes la
     let none : drop k items ≡ [] = drop_of_length-le items at_end in
     record {
       written = closes ∙ ap (λ is. done.tokens ++ items_tokens (json_items (map item_json is))) (sym none) ∙ so
-        ∙ ap (λ ts. ts ++ items_tokens (json_items (map item_json items))) opens ∙ append_assoc old.tokens (Token.begin_array ∷ []) _;
+          ∙ ap (λ ts. ts ++ items_tokens (json_items (map item_json items))) opens ∙ append_assoc old.tokens (Token.begin_array ∷ []) _;
       before = last ∙ kept ∙ same;
     }
 
@@ -80,7 +86,7 @@ members_written members k old opened done closed opens same so kept at_end close
     let none : drop k members ≡ [] = drop_of_length-le members at_end in
     record {
       written = closes ∙ ap (λ ms. done.tokens ++ members_tokens (json_members (map member_json ms))) (sym none) ∙ so
-        ∙ ap (λ ts. ts ++ members_tokens (json_members (map member_json members))) opens ∙ append_assoc old.tokens (Token.begin_object ∷ []) _;
+          ∙ ap (λ ts. ts ++ members_tokens (json_members (map member_json members))) opens ∙ append_assoc old.tokens (Token.begin_object ∷ []) _;
       before = last ∙ kept ∙ same;
     }
 

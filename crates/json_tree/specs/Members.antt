@@ -24,7 +24,8 @@ without_key key members = filter (λ m. not (bytes_eq m.key key)) members
 abbrev pub without : List ℕ → Tree → Tree
 without key t = changed (without_key key) t
 
--- members with one more, at its place in the byte order of names; it takes the place of one of its name
+-- members with one more, at its place in the byte order of names; it takes the place of one
+-- of its name
 abbrev pub put_member : Member Tree → List (Member Tree) → List (Member Tree)
 put_member m [] = m ∷ []
 put_member m (n ∷ ns) =

@@ -1,4 +1,5 @@
--- Places in a tree, and what stands there: a tree seen as a finite map from its places. RFC 6901, 4.
+-- Places in a tree, and what stands there: a tree seen as a finite map from its places.
+-- RFC 6901, 4.
 use Rattle.std.specs.Prelude.{ℕ, List, [], ◌∷◌, ◌++◌, map, Bool, false, ◌==◌, Option, Some, None, option_map, option_and_then, find, if◌then◌else◌, codes, decimal, is_none}
 use Rattle.std.specs.List.{flat_map}
 use Rattle.std.specs.Str.{bytes_eq}
@@ -84,16 +85,18 @@ first_of (o ∷ os) = or_else o (first_of os)
 abbrev pub below : Step → Option (List Step) → Option (List Step)
 below step place = option_map (λ steps. step ∷ steps) place
 
--- one level, with each value inside already seen as its first misplaced version number; `named` says
--- whether the value is that of a member `@version`
+-- one level, with each value inside already seen as its first misplaced version number; `named`
+-- says whether the value is that of a member `@version`
 abbrev pub misplaced_step : Tree-F (Bool → Option (List Step)) → Bool → Option (List Step)
 misplaced_step Tree-F.Null named = None
 misplaced_step (Tree-F.Bool b) named = None
 misplaced_step (Tree-F.Whole z) named = None
 misplaced_step Tree-F.Version named = if named then None else Some []
 misplaced_step (Tree-F.Text t) named = None
-misplaced_step (Tree-F.List items) named = first_of (map (λ i. below (At i.at) (i.value false)) items)
-misplaced_step (Tree-F.Object members) named = first_of (map (λ m. below (Key m.key) (m.value (is_version_key m.key))) members)
+misplaced_step (Tree-F.List items) named =
+    first_of (map (λ i. below (At i.at) (i.value false)) items)
+misplaced_step (Tree-F.Object members) named =
+    first_of (map (λ m. below (Key m.key) (m.value (is_version_key m.key))) members)
 
 abbrev pub misplaced : Tree → Bool → Option (List Step)
 misplaced = fold-Tree (Bool → Option (List Step)) misplaced_step
@@ -103,10 +106,11 @@ abbrev pub first_in_items : List (Item Tree) → Option (List Step)
 first_in_items items = first_of (map (λ i. below (At i.at) (misplaced i.value false)) items)
 
 abbrev pub first_in_members : List (Member Tree) → Option (List Step)
-first_in_members members = first_of (map (λ m. below (Key m.key) (misplaced m.value (is_version_key m.key))) members)
+first_in_members members =
+    first_of (map (λ m. below (Key m.key) (misplaced m.value (is_version_key m.key))) members)
 
--- The first place of a `Version` that is not the value of a member `@version`: elements in their order,
--- and members in theirs, which is the byte order of their names.
+-- The first place of a `Version` that is not the value of a member `@version`: elements in their
+-- order, and members in theirs, which is the byte order of their names.
 abbrev pub first_misplaced : Tree → Option (List Step)
 first_misplaced t = misplaced t false
 
@@ -120,7 +124,8 @@ is_placed t = is_none (first_misplaced t)
 abbrev pub escaped : ℕ → List ℕ
 escaped c = if c == 126 then codes "~0" else (if c == 47 then codes "~1" else c ∷ [])
 
--- a step as a reference token: a name with its escapes, or an index in decimal. -- RFC 6901, section 4
+-- a step as a reference token: a name with its escapes, or an index in decimal.
+-- RFC 6901, section 4
 abbrev pub token_of : Step → List ℕ
 token_of (Key key) = flat_map escaped key
 token_of (At at) = decimal at

@@ -58,7 +58,8 @@ json_step (Tree-F.Text t) = json.string t
 json_step (Tree-F.List items) = json.array (json_items items)
 json_step (Tree-F.Object members) = json.object (json_members members)
 
--- A tree as JSON: whole numbers in decimal, `Version` as `1.1`, and the indexes of elements left out.
+-- A tree as JSON: whole numbers in decimal, `Version` as `1.1`, and the indexes of elements
+-- left out.
 abbrev pub json_of : Tree → json.Json
 json_of = fold-Tree json.Json json_step
 
@@ -73,6 +74,7 @@ member_json m = record { key = m.key; value = json_of m.value }
 abbrev pub compact_of : Tree → List ℕ
 compact_of t = print (json_tokens (json_of t))
 
--- A text as a JSON string, in quotes and with the escapes that `serde_json` writes. RFC 8259, section 7.
+-- A text as a JSON string, in quotes and with the escapes that `serde_json` writes.
+-- RFC 8259, section 7.
 abbrev pub json_string : List ℕ → List ℕ
 json_string text = compact_text (string text)

@@ -17,9 +17,10 @@ element at value = record { at = at; value = value }
 abbrev pub new_member : List ℕ → Tree → Member Tree
 new_member key value = record { key = key; value = value }
 
--- The number is whole where the reader gives it as an integer of 64 bits, with a sign or without: so not
--- where it is spelled with a fraction or an exponent, is out of this range, or is `-0`. Every other number
--- becomes a `Version`; whether one may stand where it stands is asked of the tree (`first_misplaced`).
+-- The number is whole where the reader gives it as an integer of 64 bits, with a sign or without:
+-- so not where it is spelled with a fraction or an exponent, is out of this range, or is `-0`.
+-- Every other number becomes a `Version`; whether one may stand where it stands is asked of the
+-- tree (`first_misplaced`).
 abbrev pub whole_or_version : Option ℤ → Tree
 whole_or_version (Some z) = v.Whole z
 whole_or_version None = v.Version
@@ -27,8 +28,8 @@ whole_or_version None = v.Version
 abbrev pub number_tree : Num → Tree
 number_tree n = whole_or_version (as_integer n)
 
--- The tree of a JSON value: elements are numbered from 0, and members stand in the order in which the
--- reader keeps them, which is the byte order of their names.
+-- The tree of a JSON value: elements are numbered from 0, and members stand in the order in which
+-- the reader keeps them, which is the byte order of their names.
 abbrev mutual
   pub tree_of : Data → Tree
   tree_of null = v.Null
@@ -53,8 +54,10 @@ lawful_step (Tree-F.Bool b) = true
 lawful_step (Tree-F.Whole z) = true
 lawful_step Tree-F.Version = true
 lawful_step (Tree-F.Text t) = true
-lawful_step (Tree-F.List items) = each_next (λ i j. nat_lt i.at j.at) items && list_all (λ i. i.value) items
-lawful_step (Tree-F.Object members) = each_next (λ m n. is_before m.key n.key) members && list_all (λ m. m.value) members
+lawful_step (Tree-F.List items) =
+    each_next (λ i j. nat_lt i.at j.at) items && list_all (λ i. i.value) items
+lawful_step (Tree-F.Object members) =
+    each_next (λ m n. is_before m.key n.key) members && list_all (λ m. m.value) members
 
 -- Whether a tree is lawful: the names of each object, in byte order, and the indexes of each list's
 -- elements rise strictly.
@@ -106,8 +109,8 @@ levels_step (Tree-F.Object members) = suc (greatest (map (λ m. m.value) members
 abbrev pub levels_of : Tree → ℕ
 levels_of = fold-Tree ℕ levels_step
 
--- How deep a tree nests: the root has nesting 1, of whatever kind it is, and each list or object inside
--- it adds 1. RFC 8259, section 9, leaves the limit to the reader.
+-- How deep a tree nests: the root has nesting 1, of whatever kind it is, and each list or object
+-- inside it adds 1. RFC 8259, section 9, leaves the limit to the reader.
 abbrev pub nesting_of : Tree → ℕ
 nesting_of t = max 1 (levels_of t)
 

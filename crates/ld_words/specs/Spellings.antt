@@ -1,4 +1,5 @@
--- The spelling of each keyword and of each error code: the one table of both. And the form of a keyword.
+-- The spelling of each keyword and of each error code: the one table of both.
+-- And the form of a keyword.
 use Rattle.std.specs.Prelude.{ℕ, List as ListOf, [], ◌∷◌, Bool, true, false, not, ◌&&◌, ◌==◌, codes}
 use Rattle.std.specs.List.{list_all}
 use Rattle.std.specs.Char.{is_ascii_alphabetic}
@@ -38,7 +39,8 @@ abbrev pub is_empty : ListOf ℕ → Bool
 is_empty [] = true
 is_empty (c ∷ rest) = false
 
--- `@` and one or more letters, the form of a keyword. -- JSON-LD 1.1 API, 4.2.2 and 5.2.2: "@"1*ALPHA
+-- `@` and one or more letters, the form of a keyword.
+-- JSON-LD 1.1 API, 4.2.2 and 5.2.2: "@"1*ALPHA
 abbrev pub has_keyword_form : ListOf ℕ → Bool
 has_keyword_form [] = false
 has_keyword_form (c ∷ rest) = (c == 64) && not (is_empty rest) && list_all is_ascii_alphabetic rest

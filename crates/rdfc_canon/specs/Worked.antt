@@ -24,8 +24,8 @@ leaf x = record {
   graph = None;
 }
 
--- The dataset has a run that gives the blank nodes with these labels the canonical identifiers in this order, with
--- this tie, work and depth.
+-- The dataset has a run that gives the blank nodes with these labels the canonical identifiers in
+-- this order, with this tie, work and depth.
 abbrev pub HasRun : List Statement → List (List ℕ) → Bool → ℕ → ℕ → Type 0
 HasRun q labels tie work depth =
     IsRun (nodes_of (λ text. text) q)

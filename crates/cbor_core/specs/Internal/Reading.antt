@@ -40,8 +40,8 @@ wide_at total at w least bytes =
     else if nat_lt (from_be_bytes w (take (byte_len w) bytes)) least then Err (NotShortest at)
     else Ok (from_be_bytes w (take (byte_len w) bytes), drop (byte_len w) bytes)
 
--- The argument of the head that the bytes begin with. A code of 28 to 31 is known to be refused from
--- the first byte, a longer argument than it needs only from its last.
+-- The argument of the head that the bytes begin with. A code of 28 to 31 is known to be refused
+-- from the first byte, a longer argument than it needs only from its last.
 unfoldable pub argument_at : ℕ → List ℕ → Result (ℕ × List ℕ) CborFault
 argument_at total [] = Err (Truncated total)
 argument_at total (b ∷ bytes) =
@@ -100,8 +100,8 @@ key_at total left (b ∷ bytes) =
     else if b / 32 == 0 then argument_at total (b ∷ bytes)
     else Err (Forbidden (start_of total (b ∷ bytes)))
 
--- so many entries of a map behind those that are done; a key is refused as repeated before its value
--- is read
+-- so many entries of a map behind those that are done; a key is refused as repeated before its
+-- value is read
 unfoldable pub entries_at : ℕ → Reader → List (ℕ × Item) → ℕ → ℕ → List ℕ
     → Result (List (ℕ × Item) × ℕ × List ℕ) CborFault
 entries_at total inner done zero left bytes = Ok (done, left, bytes)
@@ -125,8 +125,8 @@ flat_at total major left bytes =
     else if major == 3 then text_string_at total left bytes
     else Err (Forbidden (start_of total bytes))
 
--- The item that the bytes begin with, where lists and maps may nest so many levels deep. Its beginning
--- is counted where its first byte is there, before anything is said of this byte.
+-- The item that the bytes begin with, where lists and maps may nest so many levels deep. Its
+-- beginning is counted where its first byte is there, before anything is said of this byte.
 unfoldable pub item_at : ℕ → ℕ → Reader
 item_at total levels left [] = Err (Truncated total)
 item_at total zero left (b ∷ bytes) =

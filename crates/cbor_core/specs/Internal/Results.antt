@@ -1,5 +1,5 @@
--- Results over any type of faults: steps one after another, and what a call answers where memory may
--- run out.
+-- Results over any type of faults: steps one after another, and what a call answers where memory
+-- may run out.
 use Rattle.std.specs.Prelude.{◌≡◌, Bool, true, false, Result, Ok, Err}
 
 -- a step behind one that may fail

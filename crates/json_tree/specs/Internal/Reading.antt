@@ -17,15 +17,16 @@ abbrev pub ReadsTree : Tree → Result Tree TreeFault → Type 0
 ReadsTree t (Ok read) = (read ≡ t) × (nesting_of t ≤ nesting_limit) × (first_misplaced t ≡ None)
 ReadsTree t (Err NotJson) = ⊥
 ReadsTree t (Err TooDeep) = nesting_limit < nesting_of t
-ReadsTree t (Err (NotWhole place)) = (nesting_of t ≤ nesting_limit) × (first_misplaced t ≡ Some place.steps)
+ReadsTree t (Err (NotWhole place)) =
+    (nesting_of t ≤ nesting_limit) × (first_misplaced t ≡ Some place.steps)
 ReadsTree t (Err Memory) = Unit {0}
 
 -- the steps that were found, from the last to the first
 abbrev pub steps_found : Option (Vec Step Global) → Option (List Step)
 steps_found found = option_map (λ steps. reverse steps.items) found
 
--- what the steps of reading say of a value, of a list's elements and of an object's members: the tree,
--- that it is lawful, and that its numbers are in range
+-- what the steps of reading say of a value, of a list's elements and of an object's members: the
+-- tree, that it is lawful, and that its numbers are in range
 pub record IsTreeOf (d : Data) (t : Tree) : Type 0 where
   pub is : t ≡ tree_of d
   pub lawful : is_lawful t ≡ true
