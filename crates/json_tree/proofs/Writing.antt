@@ -70,7 +70,7 @@ items_written items k old opened done closed opens same so kept at_end closes la
     let none : drop k items ≡ [] = drop_of_length-le items at_end in
     record {
       written = closes ∙ ap (λ is. done.tokens ++ items_tokens (json_items (map item_json is))) (sym none) ∙ so
-        ∙ ap (λ ts. ts ++ items_tokens (json_items (map item_json items))) opens ∙ append_assoc old.tokens (Token.begin_array ∷ []) _;
+          ∙ ap (λ ts. ts ++ items_tokens (json_items (map item_json items))) opens ∙ append_assoc old.tokens (Token.begin_array ∷ []) _;
       before = last ∙ kept ∙ same;
     }
 
@@ -80,7 +80,7 @@ members_written members k old opened done closed opens same so kept at_end close
     let none : drop k members ≡ [] = drop_of_length-le members at_end in
     record {
       written = closes ∙ ap (λ ms. done.tokens ++ members_tokens (json_members (map member_json ms))) (sym none) ∙ so
-        ∙ ap (λ ts. ts ++ members_tokens (json_members (map member_json members))) opens ∙ append_assoc old.tokens (Token.begin_object ∷ []) _;
+          ∙ ap (λ ts. ts ++ members_tokens (json_members (map member_json members))) opens ∙ append_assoc old.tokens (Token.begin_object ∷ []) _;
       before = last ∙ kept ∙ same;
     }
 
