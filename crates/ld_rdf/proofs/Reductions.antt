@@ -21,7 +21,7 @@ use Rattle.ld_rdf.specs.Reduced.{with_members_in, with_members, without_key, put
 use Rattle.ld_rdf.specs.Internal.Parts.{member_text, property_of, is_id_or_context, is_left_out, text_beside, statements_beside}
 use Rattle.ld_rdf.proofs.WholeRequests.{statements_in}
 use Rattle.ld_rdf.proofs.OptionsAndLists.{and_left, and_right}
-use Rattle.base_types.proofs.Orders.{bytes_eq-true, bytes_eq-same, turned, is_before-other_way, bytes_eq-false, bytes_eq-differ}
+use Rattle.base_types.proofs.Orders.{bytes_eq-true, bytes_eq-same, is_before-other_way, bytes_eq-false, bytes_eq-differ}
 
 -- ---- names that rise, by the first against all others
 
