@@ -3,12 +3,13 @@
 use Rattle.std.proofs.Common.{◌≡◌, ◌≢◌, ℕ, ◌<◌, Bool, true, false, cond, eqb, List, [], ◌∷◌, ◌++◌, length, get_or, take, drop, Option, Some, None, suc, zero, refl, sym, ap, ◌∙◌, arith, rules, append_assoc, ◌&&◌, is_some, unwrap_or}
 use denote.Ref.{Bor}
 use Rattle.std.specs.Option.{MatchOption}
-use Rattle.std.proofs.lemmas.Bool.{ne_eqb, eqb-true}
+use Rattle.std.proofs.lemmas.Bool.{ne_eqb, eqb-true, and_parts}
 use Rattle.std.proofs.lemmas.Str.Pattern.{IsSplitOnceResult, split_parts}
 use Rattle.iri_ref.specs.Components.{before, after, from, with_mark, with_colon, has_authority, relative_part, hierarchy, components, recompose}
 use Rattle.iri_ref.specs.Characters.{is_scheme}
 use Rattle.iri_ref.specs.Resolution.{directory}
 
+-- a text without the mark
 pub no_mark : (c : ℕ) (bs : List ℕ) → ((i : ℕ) → i < length bs → get_or bs i 0 ≢ c) → (before c bs ≡ bs) × (after c bs ≡ None) × (from c bs ≡ [])
 no_mark c [] h = (refl, refl, refl)
 no_mark c (b ∷ bs) h =
@@ -19,10 +20,7 @@ no_mark c (b ∷ bs) h =
 same : (c : ℕ) → eqb c c ≡ true
 same c = search rules
 
-both_true : (a b : Bool) → (a && b) ≡ true → (a ≡ true) × (b ≡ true)
-both_true true b e = (refl, e)
-both_true false b e = absurd (cc)
-
+-- a text around its first mark
 pub first_mark : (c : ℕ) (xs ys : List ℕ) → ((i : ℕ) → i < length xs → get_or xs i 0 ≢ c) → (before c (xs ++ c ∷ ys) ≡ xs) × (after c (xs ++ c ∷ ys) ≡ Some ys) × (from c (xs ++ c ∷ ys) ≡ c ∷ ys)
 first_mark c [] ys h = rw (same c) (refl, refl, refl)
 first_mark c (b ∷ bs) ys h =
@@ -51,7 +49,7 @@ before-after c (b ∷ bs) = before-after_step c b bs (before-after c bs) (eqb b 
 -- the authority after its mark, and the path, make the hierarchy
 slashes : (a b : ℕ) (rest : List ℕ) (t : Bool) → (eqb a 47 && eqb b 47) ≡ t → with_mark (47 ∷ 47 ∷ []) (cond t (Some (before 47 rest)) None) ++ cond t (from 47 rest) (a ∷ b ∷ rest) ≡ a ∷ b ∷ rest
 slashes a b rest true e =
-    let both : (eqb a 47 ≡ true) × (eqb b 47 ≡ true) = both_true (eqb a 47) (eqb b 47) e in
+    let both : (eqb a 47 ≡ true) × (eqb b 47 ≡ true) = and_parts (eqb a 47) (eqb b 47) e in
     rw (eqb-true a 47 both.0, eqb-true b 47 both.1) (ap (λ t. 47 ∷ 47 ∷ t) (before-from 47 rest))
 slashes a b rest false e = refl
 
@@ -69,6 +67,7 @@ colon text (Some rest) false e = refl
 glue : (s a p q f h m r t : List ℕ) → a ++ p ≡ h → h ++ q ≡ m → m ++ f ≡ r → s ++ r ≡ t → s ++ a ++ p ++ q ++ f ≡ t
 glue s a p q f h m r t x y z w = cc (append_assoc s a p, append_assoc s h q, append_assoc s m f)
 
+-- the components of a text make it again
 pub recompose-components : (text : List ℕ) → recompose (components text) ≡ text
 unfolding recompose components
 recompose-components text =
@@ -103,9 +102,11 @@ one_slash_then : (once : List ℕ) → ((rest : List ℕ) → once ≢ 47 ∷ re
 one_slash_then [] h = refl
 one_slash_then (b ∷ rest) h = let differs : eqb b 47 ≡ false = ne_eqb b 47 (λ e. h rest (ap (λ x. x ∷ rest) e)) in rw differs refl
 
+-- a text with one slash at its front has no authority
 pub one_slash : (bs once : List ℕ) → bs ≡ 47 ∷ once → ((rest : List ℕ) → once ≢ 47 ∷ rest) → has_authority bs ≡ false
 one_slash bs once e h = rw e (one_slash_then once h)
 
+-- and one with two has
 pub two_slashes : (bs once rest : List ℕ) → bs ≡ 47 ∷ once → once ≡ 47 ∷ rest → (has_authority bs ≡ true) × (rest ≡ drop 2 bs)
 two_slashes bs once rest e f = rw (e, f) (refl, refl)
 
@@ -114,16 +115,18 @@ pub stripped : (bs once : List ℕ) (r : Option (Bor (List ℕ))) → bs ≡ 47 
 stripped bs once None e h = one_slash bs once e h
 stripped bs once (Some x) e h = two_slashes bs once x.now e h
 
--- the path up to its last slash, by `rfind`
-after_step : (b : ℕ) (bs : List ℕ) → is_some (after 47 bs) ≡ true → (t : Bool) → eqb b 47 ≡ t → is_some (after 47 (b ∷ bs)) ≡ true
+-- a slash in the rest is one in the whole
+pub after_step : (b : ℕ) (bs : List ℕ) → is_some (after 47 bs) ≡ true → (t : Bool) → eqb b 47 ≡ t → is_some (after 47 (b ∷ bs)) ≡ true
 after_step b bs ih true e = rw e refl
 after_step b bs ih false e = rw e ih
 
+-- where a slash stands, there is a text after it
 has_after : (bs : List ℕ) (k : ℕ) → k < length bs → get_or bs k 0 ≡ 47 → is_some (after 47 bs) ≡ true
 has_after [] k l e = absurd (omega (arith, l))
 has_after (b ∷ bs) zero l e = let there : eqb b 47 ≡ true = rw e refl in rw there refl
 has_after (b ∷ bs) (suc k) l e = after_step b bs (has_after bs k (omega (arith, l)) e) (eqb b 47) refl
 
+-- the path up to its last slash, by `rfind`: none
 pub directory_none : (bs : List ℕ) → ((i : ℕ) → i < length bs → get_or bs i 0 ≢ 47) → directory bs ≡ []
 directory_none [] h = refl
 directory_none (b ∷ bs) h =
@@ -131,6 +134,7 @@ directory_none (b ∷ bs) h =
     let no : is_some (after 47 (b ∷ bs)) ≡ false = ap is_some none in
     rw no refl
 
+-- and where it stands
 pub directory_at : (bs : List ℕ) (k : ℕ) → k < length bs → get_or bs k 0 ≡ 47 → ((i : ℕ) → k < i → i < length bs → get_or bs i 0 ≢ 47) → directory bs ≡ take (suc k) bs
 directory_at [] k l e h = absurd (omega (arith, l))
 directory_at (b ∷ bs) zero l e h =

@@ -1,3 +1,5 @@
+pub mod Allowed
+pub mod Colon
 pub mod Cuts
 pub mod Lengths
 pub mod Loop

@@ -5,7 +5,8 @@ use Rattle.std.proofs.lemmas.Bool.{lt-ltb, eqb-true}
 use Rattle.std.proofs.lemmas.List.{append-nil}
 use Rattle.std.proofs.Math.Seq.{take-append_seam}
 use Rattle.iri_ref.specs.Components.{before, after, from}
-use Rattle.iri_ref.specs.Resolution.{closed, enter, is_dot, is_dot_dot, joined, remove_dot_segments, segments, up}
+use Rattle.iri_ref.proofs.Cuts.{after_step}
+use Rattle.iri_ref.specs.Resolution.{with_end, enter, is_dot, is_dot_dot, path_of, remove_dot_segments, segments, up}
 use Rattle.iri_ref.specs.Buffers.{Removes, next_input, next_output, without_last}
 use Rattle.iri_ref.specs.Buffers.Removes.{ends, turns}
 
@@ -40,13 +41,9 @@ cuts (b ∷ bs) ss h =
     rw f.0 (ap (λ t. b ∷ t) ih.0, ih.1, ih.2)
 
 -- the output without its last segment
-has_slash_step : (b : ℕ) (bs : List ℕ) → is_some (after 47 bs) ≡ true → (t : Bool) → eqb b 47 ≡ t → is_some (after 47 (b ∷ bs)) ≡ true
-has_slash_step b bs ih true e = rw e refl
-has_slash_step b bs ih false e = rw e ih
-
 has_slash : (t s : List ℕ) → is_some (after 47 (t ++ 47 ∷ s)) ≡ true
 has_slash [] s = refl
-has_slash (b ∷ bs) s = has_slash_step b (bs ++ 47 ∷ s) (has_slash bs s) (eqb b 47) refl
+has_slash (b ∷ bs) s = after_step b (bs ++ 47 ∷ s) (has_slash bs s) (eqb b 47) refl
 
 without_pushed : (t s : List ℕ) → after 47 s ≡ None → without_last (t ++ 47 ∷ s) ≡ t
 without_pushed [] s h = let none : is_some (after 47 s) ≡ false = ap is_some h in rw none refl
@@ -61,8 +58,8 @@ rooted_push : (ks : List (List ℕ)) (s : List ℕ) → rooted (ks ++ s ∷ []) 
 rooted_push [] s = ap (λ t. 47 ∷ t) (append-nil s)
 rooted_push (k ∷ ks) s = ap (λ t. 47 ∷ t) (ap (λ t. k ++ t) (rooted_push ks s) ∙ sym (append_assoc k (rooted ks) (47 ∷ s)))
 
-joined_push : (k : List ℕ) (ks : List (List ℕ)) (s : List ℕ) → joined ((k ∷ ks) ++ s ∷ []) ≡ joined (k ∷ ks) ++ 47 ∷ s
-joined_push k ks s = ap (λ t. k ++ t) (rooted_push ks s) ∙ sym (append_assoc k (rooted ks) (47 ∷ s))
+path_of-push : (k : List ℕ) (ks : List (List ℕ)) (s : List ℕ) → path_of ((k ∷ ks) ++ s ∷ []) ≡ path_of (k ∷ ks) ++ 47 ∷ s
+path_of-push k ks s = ap (λ t. k ++ t) (rooted_push ks s) ∙ sym (append_assoc k (rooted ks) (47 ∷ s))
 
 up_push : (k : List ℕ) (ks : List (List ℕ)) (s : List ℕ) → up ((k ∷ ks) ++ s ∷ []) ≡ k ∷ ks
 up_push k ks s =
@@ -102,11 +99,11 @@ record Kept (xs : List (List ℕ)) : Type 0 where
 kept_cons : (k : List ℕ) (ks : List (List ℕ)) → Free (k ∷ ks) → Kept (k ∷ ks)
 kept_cons k ks f = record { first = k; others = ks; is = refl; free = f }
 
-went_up : (xs : List (List ℕ)) → Ended xs → Free xs → (without_last (joined xs) ≡ joined (up xs)) × Kept (up xs)
+went_up : (xs : List (List ℕ)) → Ended xs → Free xs → (without_last (path_of xs) ≡ path_of (up xs)) × Kept (up xs)
 went_up _ (lone k) f = (ap without_last (append-nil k) ∙ without_free k f.0, kept_cons [] [] (refl, tt))
 went_up _ (pushed k ks s) f =
     let parts : Free (k ∷ ks) × (after 47 s ≡ None) = free_last (k ∷ ks) s f in (
-      ap without_last (joined_push k ks s) ∙ (without_pushed (joined (k ∷ ks)) s parts.1 ∙ ap joined (sym (up_push k ks s))),
+      ap without_last (path_of-push k ks s) ∙ (without_pushed (path_of (k ∷ ks)) s parts.1 ∙ ap path_of (sym (up_push k ks s))),
       let P : List (List ℕ) → Type 0 = λ xs. Kept xs in subst P (sym (up_push k ks s)) (kept_cons k ks parts.0),
     )
 
@@ -122,14 +119,14 @@ next_out s ss output h =
     let c : (before 47 (s ++ rooted ss) ≡ s) × (from 47 (s ++ rooted ss) ≡ rooted ss) × (after 47 (s ++ rooted ss) ≡ past ss) = cuts s ss h in
     rw c.0 refl
 
-by_kind : (k : List ℕ) (ks : List (List ℕ)) (s : List ℕ) → Free (k ∷ ks) → after 47 s ≡ None → (d e : Bool) → (cond d (joined (k ∷ ks)) (cond e (without_last (joined (k ∷ ks))) (joined (k ∷ ks) ++ 47 ∷ s)) ≡ joined (cond d (k ∷ ks) (cond e (up (k ∷ ks)) ((k ∷ ks) ++ s ∷ [])))) × Kept (cond d (k ∷ ks) (cond e (up (k ∷ ks)) ((k ∷ ks) ++ s ∷ [])))
+by_kind : (k : List ℕ) (ks : List (List ℕ)) (s : List ℕ) → Free (k ∷ ks) → after 47 s ≡ None → (d e : Bool) → (cond d (path_of (k ∷ ks)) (cond e (without_last (path_of (k ∷ ks))) (path_of (k ∷ ks) ++ 47 ∷ s)) ≡ path_of (cond d (k ∷ ks) (cond e (up (k ∷ ks)) ((k ∷ ks) ++ s ∷ [])))) × Kept (cond d (k ∷ ks) (cond e (up (k ∷ ks)) ((k ∷ ks) ++ s ∷ [])))
 by_kind k ks s f h true e = (refl, kept_cons k ks f)
 by_kind k ks s f h false true = went_up (k ∷ ks) (ended k ks) f
-by_kind k ks s f h false false = (sym (joined_push k ks s), kept_cons k (ks ++ s ∷ []) (f.0, free_push ks s f.1 h))
+by_kind k ks s f h false false = (sym (path_of-push k ks s), kept_cons k (ks ++ s ∷ []) (f.0, free_push ks s f.1 h))
 
-entered : (xs : List (List ℕ)) (s : List ℕ) → Kept xs → after 47 s ≡ None → (cond (is_dot s) (joined xs) (cond (is_dot_dot s) (without_last (joined xs)) (joined xs ++ 47 ∷ s)) ≡ joined (enter xs s)) × Kept (enter xs s)
+entered : (xs : List (List ℕ)) (s : List ℕ) → Kept xs → after 47 s ≡ None → (cond (is_dot s) (path_of xs) (cond (is_dot_dot s) (without_last (path_of xs)) (path_of xs ++ 47 ∷ s)) ≡ path_of (enter xs s)) × Kept (enter xs s)
 entered xs s kept h =
-    let P : List (List ℕ) → Type 0 = λ ys. (cond (is_dot s) (joined ys) (cond (is_dot_dot s) (without_last (joined ys)) (joined ys ++ 47 ∷ s)) ≡ joined (enter ys s)) × Kept (enter ys s) in
+    let P : List (List ℕ) → Type 0 = λ ys. (cond (is_dot s) (path_of ys) (cond (is_dot_dot s) (without_last (path_of ys)) (path_of ys ++ 47 ∷ s)) ≡ path_of (enter ys s)) × Kept (enter ys s) in
     let Q : List (List ℕ) → Type 0 = λ ys. Free ys in
     subst P (sym kept.is) (by_kind kept.first kept.others s (subst Q kept.is kept.free) h (is_dot s) (is_dot_dot s))
 
@@ -143,26 +140,26 @@ cond_both : (b : Bool) (x : List ℕ) → cond b x x ≡ x
 cond_both true x = refl
 cond_both false x = refl
 
-slash : (ys : List (List ℕ)) → Kept ys → Removes (47 ∷ []) (joined ys) (joined (ys ++ [] ∷ []))
+slash : (ys : List (List ℕ)) → Kept ys → Removes (47 ∷ []) (path_of ys) (path_of (ys ++ [] ∷ []))
 slash ys kept =
-    let P : List (List ℕ) → Type 0 = λ zs. joined (zs ++ [] ∷ []) ≡ joined zs ++ 47 ∷ [] in
-    let same : joined (ys ++ [] ∷ []) ≡ joined ys ++ 47 ∷ [] = subst P (sym kept.is) (joined_push kept.first kept.others []) in
-    rw same (turns 47 [] (joined ys) (joined ys ++ 47 ∷ []) (ends (joined ys ++ 47 ∷ [])))
+    let P : List (List ℕ) → Type 0 = λ zs. path_of (zs ++ [] ∷ []) ≡ path_of zs ++ 47 ∷ [] in
+    let same : path_of (ys ++ [] ∷ []) ≡ path_of ys ++ 47 ∷ [] = subst P (sym kept.is) (path_of-push kept.first kept.others []) in
+    rw same (turns 47 [] (path_of ys) (path_of ys ++ 47 ∷ []) (ends (path_of ys ++ 47 ∷ [])))
 
-walk_last : (s : List ℕ) (xs : List (List ℕ)) → after 47 s ≡ None → Kept xs → (t : Bool) → (is_dot s || is_dot_dot s) ≡ t → Removes (47 ∷ (s ++ [])) (joined xs) (joined (fold enter xs (cond t (s ∷ [] ∷ []) (s ∷ []))))
+walk_last : (s : List ℕ) (xs : List (List ℕ)) → after 47 s ≡ None → Kept xs → (t : Bool) → (is_dot s || is_dot_dot s) ≡ t → Removes (47 ∷ (s ++ [])) (path_of xs) (path_of (fold enter xs (cond t (s ∷ [] ∷ []) (s ∷ []))))
 walk_last s xs h kept true e =
-    let en : (cond (is_dot s) (joined xs) (cond (is_dot_dot s) (without_last (joined xs)) (joined xs ++ 47 ∷ s)) ≡ joined (enter xs s)) × Kept (enter xs s) = entered xs s kept h in
-    turns 47 (s ++ []) (joined xs) _ (moved _ (47 ∷ []) _ (joined (enter xs s)) _ (next_in s [] h ∙ ap (λ b. cond b (47 ∷ []) []) e) (next_out s [] (joined xs) h ∙ en.0) (slash (enter xs s) en.1))
+    let en : (cond (is_dot s) (path_of xs) (cond (is_dot_dot s) (without_last (path_of xs)) (path_of xs ++ 47 ∷ s)) ≡ path_of (enter xs s)) × Kept (enter xs s) = entered xs s kept h in
+    turns 47 (s ++ []) (path_of xs) _ (moved _ (47 ∷ []) _ (path_of (enter xs s)) _ (next_in s [] h ∙ ap (λ b. cond b (47 ∷ []) []) e) (next_out s [] (path_of xs) h ∙ en.0) (slash (enter xs s) en.1))
 walk_last s xs h kept false e =
-    let en : (cond (is_dot s) (joined xs) (cond (is_dot_dot s) (without_last (joined xs)) (joined xs ++ 47 ∷ s)) ≡ joined (enter xs s)) × Kept (enter xs s) = entered xs s kept h in
-    turns 47 (s ++ []) (joined xs) _ (moved _ [] _ (joined (enter xs s)) _ (next_in s [] h ∙ ap (λ b. cond b (47 ∷ []) []) e) (next_out s [] (joined xs) h ∙ en.0) (ends (joined (enter xs s))))
+    let en : (cond (is_dot s) (path_of xs) (cond (is_dot_dot s) (without_last (path_of xs)) (path_of xs ++ 47 ∷ s)) ≡ path_of (enter xs s)) × Kept (enter xs s) = entered xs s kept h in
+    turns 47 (s ++ []) (path_of xs) _ (moved _ [] _ (path_of (enter xs s)) _ (next_in s [] h ∙ ap (λ b. cond b (47 ∷ []) []) e) (next_out s [] (path_of xs) h ∙ en.0) (ends (path_of (enter xs s))))
 
-walk : (ss xs : List (List ℕ)) → Free ss → Kept xs → Removes (rooted ss) (joined xs) (joined (fold enter xs (closed ss)))
-walk [] xs f kept = ends (joined xs)
+walk : (ss xs : List (List ℕ)) → Free ss → Kept xs → Removes (rooted ss) (path_of xs) (path_of (fold enter xs (with_end ss)))
+walk [] xs f kept = ends (path_of xs)
 walk (s ∷ []) xs f kept = walk_last s xs f.0 kept (is_dot s || is_dot_dot s) refl
 walk (s ∷ t ∷ ts) xs f kept =
-    let en : (cond (is_dot s) (joined xs) (cond (is_dot_dot s) (without_last (joined xs)) (joined xs ++ 47 ∷ s)) ≡ joined (enter xs s)) × Kept (enter xs s) = entered xs s kept f.0 in
-    turns 47 (s ++ rooted (t ∷ ts)) (joined xs) _ (moved _ (rooted (t ∷ ts)) _ (joined (enter xs s)) _ (next_in s (t ∷ ts) f.0 ∙ cond_both (is_dot s || is_dot_dot s) (rooted (t ∷ ts))) (next_out s (t ∷ ts) (joined xs) f.0 ∙ en.0) (walk (t ∷ ts) (enter xs s) f.1 en.1))
+    let en : (cond (is_dot s) (path_of xs) (cond (is_dot_dot s) (without_last (path_of xs)) (path_of xs ++ 47 ∷ s)) ≡ path_of (enter xs s)) × Kept (enter xs s) = entered xs s kept f.0 in
+    turns 47 (s ++ rooted (t ∷ ts)) (path_of xs) _ (moved _ (rooted (t ∷ ts)) _ (path_of (enter xs s)) _ (next_in s (t ∷ ts) f.0 ∙ cond_both (is_dot s || is_dot_dot s) (rooted (t ∷ ts))) (next_out s (t ∷ ts) (path_of xs) f.0 ∙ en.0) (walk (t ∷ ts) (enter xs s) f.1 en.1))
 
 -- ---- before the first slash
 
@@ -188,9 +185,9 @@ enters_first s true e h = cc
 enters_first s false true h = cc
 enters_first s false false h = refl
 
-start_plain : (b : ℕ) (bs : List ℕ) (ss : List (List ℕ)) → after 47 (b ∷ bs) ≡ None → Free ss → (is_dot (b ∷ bs) || is_dot_dot (b ∷ bs)) ≡ false → Removes (b ∷ (bs ++ rooted ss)) [] (joined (fold enter ((b ∷ bs) ∷ []) (closed ss)))
+start_plain : (b : ℕ) (bs : List ℕ) (ss : List (List ℕ)) → after 47 (b ∷ bs) ≡ None → Free ss → (is_dot (b ∷ bs) || is_dot_dot (b ∷ bs)) ≡ false → Removes (b ∷ (bs ++ rooted ss)) [] (path_of (fold enter ((b ∷ bs) ∷ []) (with_end ss)))
 start_plain b bs ss h f e =
-    turns b (bs ++ rooted ss) [] _ (moved _ (rooted ss) _ (joined ((b ∷ bs) ∷ [])) _ (first_in b bs ss h ∙ ap (λ t. cond t (unwrap_or (past ss) []) (rooted ss)) e) (first_out b bs ss h ∙ (ap (λ t. cond t [] (b ∷ bs)) e ∙ sym (append-nil (b ∷ bs)))) (walk ss ((b ∷ bs) ∷ []) f (kept_cons (b ∷ bs) [] (h, tt))))
+    turns b (bs ++ rooted ss) [] _ (moved _ (rooted ss) _ (path_of ((b ∷ bs) ∷ [])) _ (first_in b bs ss h ∙ ap (λ t. cond t (unwrap_or (past ss) []) (rooted ss)) e) (first_out b bs ss h ∙ (ap (λ t. cond t [] (b ∷ bs)) e ∙ sym (append-nil (b ∷ bs)))) (walk ss ((b ∷ bs) ∷ []) f (kept_cons (b ∷ bs) [] (h, tt))))
 
 start_dots : (b : ℕ) (bs : List ℕ) (ss : List (List ℕ)) (r : List ℕ) → after 47 (b ∷ bs) ≡ None → (is_dot (b ∷ bs) || is_dot_dot (b ∷ bs)) ≡ true → Removes (unwrap_or (past ss) []) [] r → Removes (b ∷ (bs ++ rooted ss)) [] r
 start_dots b bs ss r h e x =
@@ -199,19 +196,19 @@ start_dots b bs ss r h e x =
 result_to : (i r q : List ℕ) → r ≡ q → Removes i [] q → Removes i [] r
 result_to i r q e x = let P : List ℕ → Type 0 = λ y. Removes i [] y in subst P (sym e) x
 
-start_lone : (b : ℕ) (bs : List ℕ) → after 47 (b ∷ bs) ≡ None → (t : Bool) → (is_dot (b ∷ bs) || is_dot_dot (b ∷ bs)) ≡ t → Removes (b ∷ (bs ++ [])) [] (joined (fold enter [] (cond t ((b ∷ bs) ∷ [] ∷ []) ((b ∷ bs) ∷ []))))
+start_lone : (b : ℕ) (bs : List ℕ) → after 47 (b ∷ bs) ≡ None → (t : Bool) → (is_dot (b ∷ bs) || is_dot_dot (b ∷ bs)) ≡ t → Removes (b ∷ (bs ++ [])) [] (path_of (fold enter [] (cond t ((b ∷ bs) ∷ [] ∷ []) ((b ∷ bs) ∷ []))))
 start_lone b bs h true e =
-    result_to _ _ [] (ap (λ k. joined (k ++ [] ∷ [])) (enters_none (b ∷ bs) (is_dot (b ∷ bs)) (is_dot_dot (b ∷ bs)) e)) (start_dots b bs [] [] h e (ends []))
+    result_to _ _ [] (ap (λ k. path_of (k ++ [] ∷ [])) (enters_none (b ∷ bs) (is_dot (b ∷ bs)) (is_dot_dot (b ∷ bs)) e)) (start_dots b bs [] [] h e (ends []))
 start_lone b bs h false e =
-    result_to _ _ (joined ((b ∷ bs) ∷ [])) (ap joined (enters_first (b ∷ bs) (is_dot (b ∷ bs)) (is_dot_dot (b ∷ bs)) e)) (start_plain b bs [] h tt e)
+    result_to _ _ (path_of ((b ∷ bs) ∷ [])) (ap path_of (enters_first (b ∷ bs) (is_dot (b ∷ bs)) (is_dot_dot (b ∷ bs)) e)) (start_plain b bs [] h tt e)
 
-start_more : (b : ℕ) (bs t : List ℕ) (ts : List (List ℕ)) → after 47 (b ∷ bs) ≡ None → Free (t ∷ ts) → Removes (t ++ rooted ts) [] (joined (fold enter [] (closed (t ∷ ts)))) → (d : Bool) → (is_dot (b ∷ bs) || is_dot_dot (b ∷ bs)) ≡ d → Removes (b ∷ (bs ++ rooted (t ∷ ts))) [] (joined (fold enter (enter [] (b ∷ bs)) (closed (t ∷ ts))))
+start_more : (b : ℕ) (bs t : List ℕ) (ts : List (List ℕ)) → after 47 (b ∷ bs) ≡ None → Free (t ∷ ts) → Removes (t ++ rooted ts) [] (path_of (fold enter [] (with_end (t ∷ ts)))) → (d : Bool) → (is_dot (b ∷ bs) || is_dot_dot (b ∷ bs)) ≡ d → Removes (b ∷ (bs ++ rooted (t ∷ ts))) [] (path_of (fold enter (enter [] (b ∷ bs)) (with_end (t ∷ ts))))
 start_more b bs t ts h f ih true e =
-    result_to _ _ _ (ap (λ k. joined (fold enter k (closed (t ∷ ts)))) (enters_none (b ∷ bs) (is_dot (b ∷ bs)) (is_dot_dot (b ∷ bs)) e)) (start_dots b bs (t ∷ ts) _ h e ih)
+    result_to _ _ _ (ap (λ k. path_of (fold enter k (with_end (t ∷ ts)))) (enters_none (b ∷ bs) (is_dot (b ∷ bs)) (is_dot_dot (b ∷ bs)) e)) (start_dots b bs (t ∷ ts) _ h e ih)
 start_more b bs t ts h f ih false e =
-    result_to _ _ _ (ap (λ k. joined (fold enter k (closed (t ∷ ts)))) (enters_first (b ∷ bs) (is_dot (b ∷ bs)) (is_dot_dot (b ∷ bs)) e)) (start_plain b bs (t ∷ ts) h f e)
+    result_to _ _ _ (ap (λ k. path_of (fold enter k (with_end (t ∷ ts)))) (enters_first (b ∷ bs) (is_dot (b ∷ bs)) (is_dot_dot (b ∷ bs)) e)) (start_plain b bs (t ∷ ts) h f e)
 
-start : (s : List ℕ) (ss : List (List ℕ)) → after 47 s ≡ None → Free ss → Removes (s ++ rooted ss) [] (joined (fold enter [] (closed (s ∷ ss))))
+start : (s : List ℕ) (ss : List (List ℕ)) → after 47 s ≡ None → Free ss → Removes (s ++ rooted ss) [] (path_of (fold enter [] (with_end (s ∷ ss))))
 start [] [] h f = ends []
 start [] (t ∷ ts) h f = walk (t ∷ ts) ([] ∷ []) f (kept_cons [] [] (refl, tt))
 start (b ∷ bs) [] h f = start_lone b bs h (is_dot (b ∷ bs) || is_dot_dot (b ∷ bs)) refl
@@ -235,9 +232,10 @@ parted : (path : List ℕ) → Parted path
 parted [] = record { first = []; others = []; is = refl; whole = refl; free = refl; all = tt }
 parted (b ∷ bs) = parted_step b bs (parted bs) (eqb b 47) refl
 
+-- the loop over buffers gives what the walk over segments gives
 pub removes : (path : List ℕ) → Removes path [] (remove_dot_segments path)
 unfolding remove_dot_segments
 removes path =
     let p : Parted path = parted path in
-    let there : Removes (p.first ++ rooted p.others) [] (joined (fold enter [] (closed (p.first ∷ p.others)))) = start p.first p.others p.free p.all in
-    moved path (p.first ++ rooted p.others) [] [] _ p.whole refl (result_to _ _ _ (ap (λ x. joined (fold enter [] (closed x))) p.is) there)
+    let there : Removes (p.first ++ rooted p.others) [] (path_of (fold enter [] (with_end (p.first ∷ p.others)))) = start p.first p.others p.free p.all in
+    moved path (p.first ++ rooted p.others) [] [] _ p.whole refl (result_to _ _ _ (ap (λ x. path_of (fold enter [] (with_end x))) p.is) there)

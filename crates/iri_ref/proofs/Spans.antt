@@ -2,7 +2,7 @@
 use Rattle.std.proofs.Common.{◌≡◌, ℕ, ◌+◌, ◌-◌, List, [], ◌∷◌, ◌++◌, length, take, drop, Option, Some, None, option_map, refl, sym, ap, ◌∙◌, arith, append_assoc, length-append}
 use Rattle.std.proofs.lemmas.List.{append-nil}
 use Rattle.std.proofs.Math.Seq.{take-append_seam, drop-append_seam}
-use Rattle.iri_ref.specs.Components.{Components, components, recompose, spans, span_after, cut_out, parted_at, length_with, with_colon, with_mark}
+use Rattle.iri_ref.specs.Components.{Components, components, recompose, spans, span_after, cut_out, components_at, length_with, with_colon, with_mark}
 use Rattle.iri_ref.proofs.Cuts.{recompose-components}
 use Rattle.iri_ref.proofs.Lengths.{colon_length, slashes_length, mark_length}
 
@@ -41,8 +41,8 @@ made s a p q f = record { scheme = s; authority = a; path = p; query = q; fragme
 same_fields : (s a : Option (List ℕ)) (p : List ℕ) (q f : Option (List ℕ)) (c : Components) → s ≡ c.scheme → a ≡ c.authority → p ≡ c.path → q ≡ c.query → f ≡ c.fragment → made s a p q f ≡ c
 same_fields s a p q f c v w x y z = rw (v, w, x, y, z) refl
 
-cuts_components : (c : Components) → parted_at (recompose c) (spans c) ≡ c
-unfolding recompose spans parted_at
+cuts_components : (c : Components) → components_at (recompose c) (spans c) ≡ c
+unfolding recompose spans components_at
 cuts_components c =
     let s : List ℕ = with_colon c.scheme in
     let a : List ℕ = with_mark (47 ∷ 47 ∷ []) c.authority in
@@ -62,5 +62,5 @@ cuts_components c =
     let e5 = field_cut _ (s ++ a ++ c.path ++ q) (35 ∷ []) [] c.fragment _ 1 (whole ∙ four s a c.path q f) lsapq refl in
     same_fields _ _ _ _ _ c e1 e2 e3 e4 e5
 
-pub spans_cut : (text : List ℕ) → parted_at text (spans (components text)) ≡ components text
-spans_cut text = ap (λ t. parted_at t (spans (components text))) (sym (recompose-components text)) ∙ cuts_components (components text)
+pub spans_cut : (text : List ℕ) → components_at text (spans (components text)) ≡ components text
+spans_cut text = ap (λ t. components_at t (spans (components text))) (sym (recompose-components text)) ∙ cuts_components (components text)

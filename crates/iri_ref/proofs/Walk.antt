@@ -6,8 +6,8 @@ use Rattle.std.proofs.lemmas.Bool.{ne_eqb, lt-ltb}
 use Rattle.std.proofs.lemmas.List.{length-map, take-map, map-append}
 use Rattle.std.specs.Str.{IsUtf8}
 use Rattle.std.proofs.lemmas.Str.{IsUtf8-drop, IsCharBoundary-after_ascii}
-use Rattle.iri_ref.specs.Pieces.{shown}
-use Rattle.iri_ref.specs.Resolution.{closed, enter, is_dot, is_dot_dot, joined, segments, up}
+use Rattle.iri_ref.specs.Internal.Pieces.{texts_of}
+use Rattle.iri_ref.specs.Resolution.{with_end, enter, is_dot, is_dot_dot, path_of, segments, up}
 
 segments_at : (s later : List ℕ) → ((i : ℕ) → i < length s → get_or s i 0 ≢ 47) → segments (s ++ 47 ∷ later) ≡ s ∷ segments later
 segments_at [] later h = refl
@@ -36,37 +36,37 @@ segments_filled : (bs : List ℕ) → IsFilled (segments bs)
 segments_filled [] = record { first = []; others = []; is = refl }
 segments_filled (b ∷ bs) = filled_step b bs (segments_filled bs) (eqb b 47) refl
 
-closed_more : (s : List ℕ) (xs : List (List ℕ)) → IsFilled xs → closed (s ∷ xs) ≡ s ∷ closed xs
-closed_more s xs f = rw f.is refl
+with_end-more : (s : List ℕ) (xs : List (List ℕ)) → IsFilled xs → with_end (s ∷ xs) ≡ s ∷ with_end xs
+with_end-more s xs f = rw f.is refl
 
 -- a turn of the walk, at a slash
-pub kept_step : (kept now : List (List ℕ)) (rest s later : List ℕ) → rest ≡ s ++ 47 ∷ later → ((i : ℕ) → i < length s → get_or s i 0 ≢ 47) → now ≡ enter kept s → fold enter now (closed (segments later)) ≡ fold enter kept (closed (segments rest))
+pub kept_step : (kept now : List (List ℕ)) (rest s later : List ℕ) → rest ≡ s ++ 47 ∷ later → ((i : ℕ) → i < length s → get_or s i 0 ≢ 47) → now ≡ enter kept s → fold enter now (with_end (segments later)) ≡ fold enter kept (with_end (segments rest))
 kept_step kept now rest s later e h n =
-    let whole : closed (segments rest) ≡ s ∷ closed (segments later) = ap (λ t. closed (segments t)) e ∙ (ap closed (segments_at s later h) ∙ closed_more s (segments later) (segments_filled later)) in
+    let whole : with_end (segments rest) ≡ s ∷ with_end (segments later) = ap (λ t. with_end (segments t)) e ∙ (ap with_end (segments_at s later h) ∙ with_end-more s (segments later) (segments_filled later)) in
     rw (whole, n) refl
 
 -- its end, at the last segment
-closed_last : (kept : List (List ℕ)) (s : List ℕ) (t : Bool) → (is_dot s || is_dot_dot s) ≡ t → fold enter kept (closed (s ∷ [])) ≡ cond t (enter kept s ++ [] ∷ []) (enter kept s)
-closed_last kept s true e = rw e refl
-closed_last kept s false e = rw e refl
+with_end-last : (kept : List (List ℕ)) (s : List ℕ) (t : Bool) → (is_dot s || is_dot_dot s) ≡ t → fold enter kept (with_end (s ∷ [])) ≡ cond t (enter kept s ++ [] ∷ []) (enter kept s)
+with_end-last kept s true e = rw e refl
+with_end-last kept s false e = rw e refl
 
-pub kept_end : (kept now : List (List ℕ)) (rest : List ℕ) (t : Bool) → ((i : ℕ) → i < length rest → get_or rest i 0 ≢ 47) → now ≡ enter kept rest → t ≡ (is_dot rest || is_dot_dot rest) → cond t (now ++ [] ∷ []) now ≡ fold enter kept (closed (segments rest))
-kept_end kept now rest t h n e = rw (segments_none rest h, n) (sym (closed_last kept rest t (sym e)))
+pub kept_end : (kept now : List (List ℕ)) (rest : List ℕ) (t : Bool) → ((i : ℕ) → i < length rest → get_or rest i 0 ≢ 47) → now ≡ enter kept rest → t ≡ (is_dot rest || is_dot_dot rest) → cond t (now ++ [] ∷ []) now ≡ fold enter kept (with_end (segments rest))
+kept_end kept now rest t h n e = rw (segments_none rest h, n) (sym (with_end-last kept rest t (sym e)))
 
 -- one up, by `truncate`
-pub up_more : (xs : List (Bor (List ℕ))) (n : ℕ) → n ≡ length xs → 1 < n → shown (take (n - 1) xs) ≡ up (shown xs)
+pub up_more : (xs : List (Bor (List ℕ))) (n : ℕ) → n ≡ length xs → 1 < n → texts_of (take (n - 1) xs) ≡ up (texts_of xs)
 up_more xs n e more =
-    let same : length (shown xs) ≡ n = length-map xs (λ (s : Bor (List ℕ)). s.now) ∙ sym e in
+    let same : length (texts_of xs) ≡ n = length-map xs (λ (s : Bor (List ℕ)). s.now) ∙ sym e in
     let test : ltb 1 n ≡ true = lt-ltb 1 n more in
     rw (same, test) (sym (take-map (λ (s : Bor (List ℕ)). s.now) (n - 1) xs))
 
-later_shown : (xs : List (Bor (List ℕ))) → flat_map (λ (y : Bor (List ℕ)). 47 ∷ y.now) xs ≡ flat_map (λ y. 47 ∷ y) (shown xs)
-later_shown [] = refl
-later_shown (x ∷ xs) = ap (λ t. 47 ∷ x.now ++ t) (later_shown xs)
+later_texts : (xs : List (Bor (List ℕ))) → flat_map (λ (y : Bor (List ℕ)). 47 ∷ y.now) xs ≡ flat_map (λ y. 47 ∷ y) (texts_of xs)
+later_texts [] = refl
+later_texts (x ∷ xs) = ap (λ t. 47 ∷ x.now ++ t) (later_texts xs)
 
-pub joined_shown : (xs : List (Bor (List ℕ))) → join_by (λ (y : Bor (List ℕ)). y.now) (47 ∷ []) xs ≡ joined (shown xs)
-joined_shown [] = refl
-joined_shown (x ∷ xs) = ap (λ t. x.now ++ t) (later_shown xs)
+pub path_of-texts : (xs : List (Bor (List ℕ))) → join_by (λ (y : Bor (List ℕ)). y.now) (47 ∷ []) xs ≡ path_of (texts_of xs)
+path_of-texts [] = refl
+path_of-texts (x ∷ xs) = ap (λ t. x.now ++ t) (later_texts xs)
 
 past_seam : (s later : List ℕ) → drop (suc (length s)) (s ++ 47 ∷ later) ≡ later
 past_seam [] later = refl
@@ -85,10 +85,10 @@ later_text rest s later u e =
     let low : get_or rest (length s) 0 < 128 = omega arith in
     rw same at (IsUtf8-drop rest (length s + 1) u (IsCharBoundary-after_ascii rest (length s) u inside low))
 
-pub end_dot : (kept : List (List ℕ)) (items last : List (Bor (List ℕ))) (x : Bor (List ℕ)) (rest : List ℕ) → ((i : ℕ) → i < length rest → get_or rest i 0 ≢ 47) → shown items ≡ enter kept rest → true ≡ (is_dot rest || is_dot_dot rest) → x.now ≡ [] → last ≡ items ++ x ∷ [] → shown last ≡ fold enter kept (closed (segments rest))
+pub end_dot : (kept : List (List ℕ)) (items last : List (Bor (List ℕ))) (x : Bor (List ℕ)) (rest : List ℕ) → ((i : ℕ) → i < length rest → get_or rest i 0 ≢ 47) → texts_of items ≡ enter kept rest → true ≡ (is_dot rest || is_dot_dot rest) → x.now ≡ [] → last ≡ items ++ x ∷ [] → texts_of last ≡ fold enter kept (with_end (segments rest))
 end_dot kept items last x rest h n t e l =
-    let pushed : shown last ≡ shown items ++ [] ∷ [] = ap shown l ∙ (map-append (λ (s : Bor (List ℕ)). s.now) items (x ∷ []) ∙ ap (λ y. shown items ++ y ∷ []) e) in
-    pushed ∙ kept_end kept (shown items) rest true h n t
+    let pushed : texts_of last ≡ texts_of items ++ [] ∷ [] = ap texts_of l ∙ (map-append (λ (s : Bor (List ℕ)). s.now) items (x ∷ []) ∙ ap (λ y. texts_of items ++ y ∷ []) e) in
+    pushed ∙ kept_end kept (texts_of items) rest true h n t
 
-pub end_plain : (kept : List (List ℕ)) (items : List (Bor (List ℕ))) (rest : List ℕ) → ((i : ℕ) → i < length rest → get_or rest i 0 ≢ 47) → shown items ≡ enter kept rest → false ≡ (is_dot rest || is_dot_dot rest) → shown items ≡ fold enter kept (closed (segments rest))
-end_plain kept items rest h n t = kept_end kept (shown items) rest false h n t
+pub end_plain : (kept : List (List ℕ)) (items : List (Bor (List ℕ))) (rest : List ℕ) → ((i : ℕ) → i < length rest → get_or rest i 0 ≢ 47) → texts_of items ≡ enter kept rest → false ≡ (is_dot rest || is_dot_dot rest) → texts_of items ≡ fold enter kept (with_end (segments rest))
+end_plain kept items rest h n t = kept_end kept (texts_of items) rest false h n t

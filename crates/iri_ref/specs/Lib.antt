@@ -2,5 +2,5 @@ pub mod Buffers
 pub mod Characters
 pub mod Components
 pub mod Faults
-pub mod Pieces
 pub mod Resolution
+pub mod Internal

@@ -1,13 +1,14 @@
+//! Removal of dot segments. RFC 3986, section 5.2.4.
 ghost use Rattle.std.specs.Prelude.{◌≡◌, ◌||◌, [], string_bytes, IfOk, OnOk};
 ghost use Rattle.std.specs.List.{fold};
-ghost use Rattle.iri_ref.specs.Pieces.{shown};
-ghost use Rattle.iri_ref.specs.Resolution.{closed, enter, is_dot, is_dot_dot, remove_dot_segments, segments, up};
+ghost use Rattle.iri_ref.specs.Internal.Pieces.{texts_of};
+ghost use Rattle.iri_ref.specs.Resolution.{with_end, enter, is_dot, is_dot_dot, remove_dot_segments, segments, up};
 
 use base_types::Memory;
 use std::alloc::Global;
 
 fn go_up(kept: &mut Vec<&str>)
-    ensures { shown kept.new.items ≡ up (shown kept.old.items) }
+    ensures { texts_of kept.new.items ≡ up (texts_of kept.old.items) }
 {
     let count = kept.len();
     if count > 1 {
@@ -18,7 +19,7 @@ fn go_up(kept: &mut Vec<&str>)
 }
 
 fn keep<'a>(kept: &mut Vec<&'a str>, segment: &'a str) -> Result<(), Memory>
-    ensures { OnOk result (shown kept.new.items ≡ enter (shown kept.old.items) segment.now) }
+    ensures { OnOk result (texts_of kept.new.items ≡ enter (texts_of kept.old.items) segment.now) }
 {
     if segment == "." {
         return Ok(());
@@ -39,7 +40,8 @@ fn is_dot_segment(segment: &str) -> bool
 
 /// The segments that are left when the dot segments have done what they say.
 fn kept_segments(alloc: Global, path: &str) -> Result<Vec<&str>, Memory>
-    ensures { IfOk result (λ kept. shown kept.items ≡ fold enter [] (closed (segments path.now))) }
+    ensures { IfOk result (λ kept.
+        texts_of kept.items ≡ fold enter [] (with_end (segments path.now))) }
 {
     let mut kept = Vec::new(alloc);
     let mut rest = path;

@@ -1,3 +1,4 @@
+//! Where the components of a text stand. RFC 3986, section 3.
 /// Bytes `from` up to, and without, `to` of a text.
 #[derive(Clone, Copy, Debug, PartialEq, Eq)]
 pub struct Span {
@@ -5,7 +6,8 @@ pub struct Span {
     pub to: u64,
 }
 
-/// Where the components of a text stand, each without its mark (`:`, `//`, `?`, `#`). RFC 3986, section 3.
+/// Where the components of a text stand, each without its mark (`:`, `//`, `?`, `#`). RFC 3986,
+/// section 3.
 #[derive(Clone, Copy, Debug, PartialEq, Eq)]
 pub struct Parts {
     pub scheme: Option<Span>,
@@ -13,10 +15,4 @@ pub struct Parts {
     pub path: Span,
     pub query: Option<Span>,
     pub fragment: Option<Span>,
-}
-
-/// The text holds a character that no IRI holds; the first stands at the byte `at`.
-#[derive(Clone, Copy, Debug, PartialEq, Eq)]
-pub struct BadAt {
-    pub at: u64,
 }

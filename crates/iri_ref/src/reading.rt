@@ -1,10 +1,12 @@
-ghost use Rattle.std.specs.Prelude.{◌≡◌, ◌↔◌, ◌<◌, ◌^◌, ◌+◌, option_map, length, IsTrue, MatchResult, None, Some};
+//! Reading a text: where its components stand, and whether it is an absolute IRI.
+ghost use Rattle.std.specs.Prelude.{◌≡◌, ◌↔◌, ◌<◌, ◌^◌, ◌+◌, option_map, length, IsTrue, IfErr, IfOk, OnOk, None, Some};
 ghost use Rattle.std.specs.Option.{option_copied};
 ghost use Rattle.iri_ref.specs.Characters.{first_forbidden};
-ghost use Rattle.iri_ref.specs.Components.{components, has_scheme, length_with, recompose, span_after, spans};
-ghost use Rattle.iri_ref.specs.Pieces.{texts};
+ghost use Rattle.iri_ref.specs.Components.{IsAbsolute, components, length_with, recompose, span_after, spans};
+ghost use Rattle.iri_ref.specs.Internal.Pieces.{texts};
 
-use crate::places::{BadAt, Parts, Span};
+use crate::fault::BadAt;
+use crate::places::{Parts, Span};
 use crate::splitting::{Pieces, is_forbidden_byte, pieces_of, split_scheme};
 
 /// The byte of the first forbidden character, where there is one.
@@ -52,6 +54,7 @@ fn scheme_span(piece: Option<&str>) -> (Option<Span>, usize)
     }
 }
 
+/// The spans of the pieces in the text that they make.
 #[tactic(auto, using(crate::proofs::Lengths::length_recompose), unfolding(crate::specs::Components::spans))]
 fn parts_of(pieces: &Pieces<'_>) -> Parts
     requires { length (recompose (texts pieces.now)) < 2 ^ 64 }
@@ -77,7 +80,9 @@ fn parts_of(pieces: &Pieces<'_>) -> Parts
 /// `BadAt` exactly where `text` holds a character that no IRI holds, with the byte of the first.
 /// RFC 3986, section 3 and appendix B.
 pub fn parse(text: &str) -> Result<Parts, BadAt>
-    ensures { MatchResult result (λ parts. (first_forbidden text.now ≡ None) × (parts ≡ spans (components text.now))) (λ bad. first_forbidden text.now ≡ Some bad.at) }
+    ensures places { IfOk result (λ parts. parts ≡ spans (components text.now)) }
+    ensures allowed { OnOk result (first_forbidden text.now ≡ None) }
+    ensures refused { IfErr result (λ bad. first_forbidden text.now ≡ Some bad.at) }
 {
     if let Some(at) = forbidden_at(text) {
         return Err(BadAt { at: at as u64 });
@@ -87,7 +92,7 @@ pub fn parse(text: &str) -> Result<Parts, BadAt>
 
 /// Whether `text` has a scheme and no forbidden character. It takes no memory.
 pub fn is_absolute(text: &str) -> bool
-    ensures { IsTrue result ↔ (IsTrue (has_scheme text.now) × (first_forbidden text.now ≡ None)) }
+    ensures { IsTrue result ↔ IsAbsolute text.now }
 {
     let (scheme, _) = split_scheme(text);
     scheme.is_some() && forbidden_at(text).is_none()

@@ -1,35 +1,18 @@
-ghost use Rattle.std.specs.Prelude.{◌≡◌, ◌++◌, string_bytes, IfOk, MatchResult, None, OnOk};
+//! Resolution: what a reference means at a base. RFC 3986, section 5.2.
+ghost use Rattle.std.specs.Prelude.{◌≡◌, ◌++◌, string_bytes, IfOk, IfErr, None, OnOk};
 ghost use Rattle.std.specs.Option.{option_copied};
 ghost use Rattle.iri_ref.specs.Characters.{first_forbidden};
-ghost use Rattle.iri_ref.specs.Components.{IsAbsolute, components, recompose, with_mark};
-ghost use Rattle.iri_ref.specs.Pieces.{texts};
-ghost use Rattle.iri_ref.specs.Resolution.{directory, is_rooted, merge, target, target_path};
+ghost use Rattle.iri_ref.specs.Components.{IsAbsolute, recompose, with_mark};
+ghost use Rattle.iri_ref.specs.Internal.Pieces.{texts};
+ghost use Rattle.iri_ref.specs.Resolution.{directory, is_rooted, merge, resolution, target, target_path};
 ghost use Rattle.iri_ref.specs.Faults.{IsCause};
 
 use crate::dots::path_without_dots;
+use crate::fault::IriFault;
 use crate::reading::forbidden_at;
 use crate::splitting::{Pieces, pieces_of};
 use base_types::{Memory, Text};
 use std::alloc::Global;
-
-/// Why a reference has no meaning at a base.
-#[derive(Clone, Copy, Debug, PartialEq, Eq)]
-pub enum IriFault {
-    /// The reference holds a character that no IRI holds; the first stands at this byte.
-    BadIri(u64),
-    Memory,
-}
-
-impl From<Memory> for IriFault {
-    ghost use Rattle.std.specs.Prelude.{◌≡◌};
-    ghost use Rattle.iri_ref.specs.declared.resolving.IriFault.TheVariants as fault;
-
-    ghost from_gives = { λ _ e. e ≡ fault.Memory };
-
-    fn from(_error: Memory) -> IriFault {
-        IriFault::Memory
-    }
-}
 
 /// The path up to its last slash, and with it.
 fn directory_of(path: &str) -> &str
@@ -46,7 +29,7 @@ fn directory_of(path: &str) -> &str
 
 /// A relative path in place of the base's last segment. RFC 3986, section 5.2.3.
 #[tactic(auto, unfolding(crate::specs::Resolution::merge))]
-fn merged(alloc: Global, base: &Pieces<'_>, path: &str) -> Result<String, Memory>
+fn merge_path(alloc: Global, base: &Pieces<'_>, path: &str) -> Result<String, Memory>
     ensures { IfOk result (λ s. string_bytes s ≡ merge (texts base.now) path.now) }
 {
     let mut whole = String::new(alloc);
@@ -66,7 +49,8 @@ fn path_of_target(
     base: &Pieces<'_>,
     reference: &Pieces<'_>,
 ) -> Result<String, Memory>
-    ensures { IfOk result (λ s. string_bytes s ≡ target_path (texts base.now) (texts reference.now)) }
+    ensures { IfOk result (λ s.
+        string_bytes s ≡ target_path (texts base.now) (texts reference.now)) }
 {
     let stands_alone = reference.scheme.is_some() || reference.authority.is_some();
     if stands_alone || is_rooted_path(reference.path) {
@@ -75,7 +59,7 @@ fn path_of_target(
     if reference.path.is_empty() {
         return Ok(String::from_str(alloc, base.path)?);
     }
-    let whole = merged(alloc, base, reference.path)?;
+    let whole = merge_path(alloc, base, reference.path)?;
     path_without_dots(alloc, whole.as_str())
 }
 
@@ -140,7 +124,8 @@ fn target_of<'a>(base: &Pieces<'a>, reference: &Pieces<'a>, path: &'a str) -> Pi
 
 /// Puts a component after its mark at the end of `text`, where there is one.
 fn push_marked(text: &mut String, mark: &str, piece: Option<&str>) -> Result<(), Memory>
-    ensures { OnOk result (string_bytes text.new ≡ string_bytes text.old ++ with_mark mark.now (option_copied piece.entry)) }
+    ensures { OnOk result (string_bytes text.new
+        ≡ string_bytes text.old ++ with_mark mark.now (option_copied piece.entry)) }
 {
     if let Some(piece) = piece {
         text.push_str(mark)?;
@@ -151,7 +136,7 @@ fn push_marked(text: &mut String, mark: &str, piece: Option<&str>) -> Result<(),
 
 /// The text that the components make. RFC 3986, section 5.3.
 #[tactic(auto, unfolding(crate::specs::Components::recompose))]
-fn recomposed(alloc: Global, pieces: &Pieces<'_>) -> Result<String, Memory>
+fn recompose_text(alloc: Global, pieces: &Pieces<'_>) -> Result<String, Memory>
     ensures { IfOk result (λ s. string_bytes s ≡ recompose (texts pieces.now)) }
 {
     let mut text = String::new(alloc);
@@ -166,20 +151,31 @@ fn recomposed(alloc: Global, pieces: &Pieces<'_>) -> Result<String, Memory>
     Ok(text)
 }
 
-/// What `reference` means at `base`, which is absolute. RFC 3986, section 5.2, in its strict form: a
-/// reference with a scheme stands for itself, but for its dot segments.
+/// The text of the target of `reference` at `base`. RFC 3986, sections 5.2 and 5.3.
+fn text_of_target(alloc: Global, base: &str, reference: &str) -> Result<Text, Memory>
+    ensures { IfOk result (λ iri. iri ≡ resolution base.now reference.now) }
+{
+    let base = pieces_of(base);
+    let reference = pieces_of(reference);
+    let path = path_of_target(alloc, &base, &reference)?;
+    let text = recompose_text(alloc, &target_of(&base, &reference, path.as_str()))?;
+    Ok(Text::from_string(text))
+}
+
+/// What `reference` means at `base`, which is absolute; the answer is absolute too. RFC 3986, section
+/// 5.2, in its strict form: a reference with a scheme stands for itself, but for its dot segments.
 ///
-/// `BadIri` exactly where `reference` holds a character that no IRI holds, with the byte of the first.
+/// `BadIri` exactly where `reference` holds a character that no IRI holds, with the byte of the
+/// first.
 pub fn resolve(alloc: Global, base: &str, reference: &str) -> Result<Text, IriFault>
     requires { IsAbsolute base.now }
-    ensures { MatchResult result (λ t. (first_forbidden reference.now ≡ None) × (t ≡ recompose (target (components base.now) (components reference.now)))) (IsCause reference.now) }
+    ensures meaning { IfOk result (λ iri. iri ≡ resolution base.now reference.now) }
+    ensures absolute { IfOk result (λ iri. IsAbsolute iri) }
+    ensures allowed { OnOk result (first_forbidden reference.now ≡ None) }
+    ensures refused { IfErr result (IsCause reference.now) }
 {
     if let Some(at) = forbidden_at(reference) {
         return Err(IriFault::BadIri(at as u64));
     }
-    let base = pieces_of(base);
-    let reference = pieces_of(reference);
-    let path = path_of_target(alloc, &base, &reference)?;
-    let text = recomposed(alloc, &target_of(&base, &reference, path.as_str()))?;
-    Ok(Text::from_string(text))
+    Ok(text_of_target(alloc, base, reference)?)
 }

@@ -1,9 +1,11 @@
-ghost use Rattle.std.specs.Prelude.{◌≡◌, ◌<◌, drop, if◌then◌else◌, MatchOption, Some, None, true, false};
+//! A text's components, as pieces of it. RFC 3986, section 3 and appendix B.
+ghost use Rattle.std.specs.Prelude.{◌≡◌, ◌==◌, ◌<◌, drop, length, option_map, position, IfSome, if◌then◌else◌, MatchOption, Some, None, true, false};
 ghost use Rattle.std.specs.Option.{option_copied};
 ghost use Rattle.std.specs.List.{list_all};
 ghost use Rattle.iri_ref.specs.Characters.{is_letter, is_scheme_character, is_scheme, is_forbidden};
-ghost use Rattle.iri_ref.specs.Components.{before, after, from, has_authority, has_scheme, relative_part, components};
-ghost use Rattle.iri_ref.specs.Pieces.{texts};
+ghost use Rattle.iri_ref.specs.Components.{before, after, around_colon, from, authority_of, has_authority, has_scheme, path_after_authority, relative_part, components};
+ghost use Rattle.iri_ref.specs.Internal.Pieces.{texts};
+ghost use Rattle.iri_ref.specs.Internal.Places.{colon_place};
 
 /// The components of a text, each as it stands there.
 #[derive(Clone, Copy)]
@@ -70,7 +72,8 @@ fn cut(text: &str, mark: char) -> (&str, Option<&str>)
 
 /// The scheme, where there is one, and the text after its colon.
 pub(crate) fn split_scheme(text: &str) -> (Option<&str>, &str)
-    ensures front { option_copied result.0 ≡ (if has_scheme text.now then Some (before 58 text.now) else None) }
+    ensures front { option_copied result.0
+        ≡ (if has_scheme text.now then Some (before 58 text.now) else None) }
     ensures back { result.1.now ≡ relative_part text.now }
 {
     let (head, tail) = cut(text, ':');
@@ -88,7 +91,8 @@ pub(crate) fn split_scheme(text: &str) -> (Option<&str>, &str)
 
 /// What follows `//`, where the text begins so.
 fn after_slashes(text: &str) -> Option<&str>
-    ensures { MatchOption result (has_authority text.now ≡ false) (λ rest. (has_authority text.now ≡ true) × (rest.now ≡ drop 2 text.now)) }
+    ensures { MatchOption result (has_authority text.now ≡ false) (λ rest.
+        (has_authority text.now ≡ true) × (rest.now ≡ drop 2 text.now)) }
 {
     match text.strip_prefix('/') {
         Some(rest) => rest.strip_prefix('/'),
@@ -112,8 +116,8 @@ fn cut_before_slash(text: &str) -> (&str, &str)
 
 /// The authority, where there is one, and the path after it.
 fn split_authority(text: &str) -> (Option<&str>, &str)
-    ensures front { option_copied result.0 ≡ (if has_authority text.now then Some (before 47 (drop 2 text.now)) else None) }
-    ensures back { result.1.now ≡ (if has_authority text.now then from 47 (drop 2 text.now) else text.now) }
+    ensures front { option_copied result.0 ≡ authority_of text.now }
+    ensures back { result.1.now ≡ path_after_authority text.now }
 {
     match after_slashes(text) {
         Some(rest) => {
@@ -124,6 +128,7 @@ fn split_authority(text: &str) -> (Option<&str>, &str)
     }
 }
 
+/// The components of `text`.
 #[tactic(auto, unfolding(crate::specs::Components::components))]
 pub(crate) fn pieces_of(text: &str) -> Pieces<'_>
     ensures { texts result ≡ components text.now }
@@ -138,5 +143,41 @@ pub(crate) fn pieces_of(text: &str) -> Pieces<'_>
         path,
         query,
         fragment,
+    }
+}
+
+/// The place of the first colon.
+fn colon_in(bytes: &[u8]) -> Option<usize>
+    ensures place { result ≡ position (λ c. c == 58) bytes.now }
+    ensures inside { IfSome result (λ at. at < length bytes.now) }
+{
+    bytes.iter().position(|byte| *byte == b':')
+}
+
+/// The byte of the first colon that is not the first character.
+fn colon_at(text: &str) -> Option<usize>
+    ensures { result ≡ colon_place text.now }
+{
+    match text.as_bytes() {
+        [] => None,
+        [_, rest @ ..] => match colon_in(rest) {
+            Some(at) => Some(at + 1),
+            None => None,
+        },
+    }
+}
+
+/// The texts before and after the first colon of `text` that is not its first character, where there
+/// is one: the prefix and the suffix of a compact IRI. It takes no memory. JSON-LD 1.1 API, 5.2.2.
+pub fn split_at_colon(text: &str) -> Option<(&str, &str)>
+    ensures { option_map (λ parts. (parts.0.now, parts.1.now)) result ≡ around_colon text.now }
+{
+    match colon_at(text) {
+        Some(at) => {
+            let (prefix, rest) = text.split_at(at);
+            let (_, suffix) = rest.split_at(1);
+            Some((prefix, suffix))
+        }
+        None => None,
     }
 }

@@ -1,4 +1,5 @@
-use crate::{BadAt, IriFault, Parts, Span, is_absolute, parse, resolve};
+//! The tables of RFC 3986, other bases, and every ASCII character.
+use crate::{BadAt, IriFault, Parts, Span, is_absolute, parse, resolve, split_at_colon};
 use std::test::Fail;
 
 /// RFC 3986, sections 5.4.1 and 5.4.2, the strict form of the last.
@@ -47,62 +48,283 @@ const EXAMPLES: [(&str, &str); 42] = [
     ("http:g", "http:g"),
 ];
 
+/// Other bases: without an authority, without a path, with a fragment. RFC 3986, 5.2.2 to 5.2.4.
+const OTHERS: [(&str, &str, &str); 22] = [
+    // a reference never gets the base's fragment
+    ("http://a/b/c/d;p?q#f", "", "http://a/b/c/d;p?q"),
+    ("http://a/b/c/d;p?q#f", "g", "http://a/b/c/g"),
+    ("http://a/b/c/d;p?q#f", "?y", "http://a/b/c/d;p?y"),
+    ("http://a/b/c/d;p?q#f", "#s", "http://a/b/c/d;p?q#s"),
+    ("http://a#f", "", "http://a"),
+    // an authority and an empty path: the path is rooted (5.2.3)
+    ("http://a", "g", "http://a/g"),
+    ("http://a?q", "g", "http://a/g"),
+    ("http://a", "../g", "http://a/g"),
+    ("http://a", "", "http://a"),
+    ("http://", "g", "http:///g"),
+    // neither authority nor path: it is not
+    ("foo:", "g", "foo:g"),
+    ("foo:", "", "foo:"),
+    ("foo:?q", "g", "foo:g"),
+    ("foo:", "/g", "foo:/g"),
+    ("foo:", "//g", "foo://g"),
+    // a path without an authority
+    ("urn:a/b", "c", "urn:a/c"),
+    ("urn:a", "c", "urn:c"),
+    ("urn:example:animal", "?y#s", "urn:example:animal?y#s"),
+    // the examples of 5.2.4
+    ("http://a", "/a/b/c/./../../g", "http://a/a/g"),
+    ("http://a/b", "x:mid/content=5/../6", "x:mid/6"),
+    ("foo:a/b", "./.", "foo:a/"),
+    ("foo:a/b", "../..", "foo:/"),
+];
+
 const BASE: &str = "http://a/b/c/d;p?q";
 
 #[test]
 fn references_mean_what_the_standard_says(rt: HostRuntime) -> Result<(), Fail> {
-    assert!(rt; is_absolute(BASE));
     for (reference, wanted) in EXAMPLES {
-        let found = resolve(rt.alloc(), BASE, reference)?;
-        assert!(rt; found.as_str() == wanted, "{reference}");
+        assert!(rt; is_absolute(BASE));
+        let iri = resolve(rt.alloc(), BASE, reference)?;
+        assert!(rt; iri.as_str() == wanted, "{reference}");
     }
+    for (base, reference, wanted) in OTHERS {
+        assert!(rt; is_absolute(base), "{base}");
+        let iri = resolve(rt.alloc(), base, reference)?;
+        assert!(rt; iri.as_str() == wanted, "{base} {reference}");
+    }
+    let refused = resolve(rt.alloc(), BASE, "a b c");
+    assert!(rt; matches!(refused, Err(IriFault::BadIri(1))));
     Ok(())
 }
 
-/// A base without an authority, one with an empty path, and texts with forbidden characters.
-#[test]
-fn other_bases_and_refusals(rt: HostRuntime) -> Result<(), Fail> {
-    assert!(rt; is_absolute("http://a"));
-    let found = resolve(rt.alloc(), "http://a", "g")?;
-    assert!(rt; found.as_str() == "http://a/g");
-    assert!(rt; is_absolute("urn:a/b"));
-    let found = resolve(rt.alloc(), "urn:a/b", "c")?;
-    assert!(rt; found.as_str() == "urn:a/c");
-    let found = resolve(rt.alloc(), "urn:a/b", "a b c");
-    assert!(rt; matches!(found, Err(IriFault::BadIri(1))));
-    Ok(())
+/// A text, and the bytes of its scheme, authority, path, query and fragment.
+type Row = (
+    &'static str,
+    Option<(u64, u64)>,
+    Option<(u64, u64)>,
+    (u64, u64),
+    Option<(u64, u64)>,
+    Option<(u64, u64)>,
+);
+
+/// The bytes by the regular expression of RFC 3986, appendix B.
+const PARTS: [Row; 20] = [
+    // RFC 3986, 1.1.2
+    (
+        "ftp://ftp.is.co.za/rfc/rfc1808.txt",
+        Some((0, 3)),
+        Some((6, 18)),
+        (18, 34),
+        None,
+        None,
+    ),
+    (
+        "http://www.ietf.org/rfc/rfc2396.txt",
+        Some((0, 4)),
+        Some((7, 19)),
+        (19, 35),
+        None,
+        None,
+    ),
+    (
+        "ldap://[2001:db8::7]/c=GB?objectClass?one",
+        Some((0, 4)),
+        Some((7, 20)),
+        (20, 25),
+        Some((26, 41)),
+        None,
+    ),
+    (
+        "mailto:John.Doe@example.com",
+        Some((0, 6)),
+        None,
+        (7, 27),
+        None,
+        None,
+    ),
+    (
+        "news:comp.infosystems.www.servers.unix",
+        Some((0, 4)),
+        None,
+        (5, 38),
+        None,
+        None,
+    ),
+    (
+        "tel:+1-816-555-1212",
+        Some((0, 3)),
+        None,
+        (4, 19),
+        None,
+        None,
+    ),
+    (
+        "telnet://192.0.2.16:80/",
+        Some((0, 6)),
+        Some((9, 22)),
+        (22, 23),
+        None,
+        None,
+    ),
+    (
+        "urn:oasis:names:specification:docbook:dtd:xml:4.1.2",
+        Some((0, 3)),
+        None,
+        (4, 51),
+        None,
+        None,
+    ),
+    // 3
+    (
+        "foo://example.com:8042/over/there?name=ferret#nose",
+        Some((0, 3)),
+        Some((6, 22)),
+        (22, 33),
+        Some((34, 45)),
+        Some((46, 50)),
+    ),
+    (
+        "urn:example:animal:ferret:nose",
+        Some((0, 3)),
+        None,
+        (4, 30),
+        None,
+        None,
+    ),
+    // appendix B
+    (
+        "http://www.ics.uci.edu/pub/ietf/uri/#Related",
+        Some((0, 4)),
+        Some((7, 22)),
+        (22, 36),
+        None,
+        Some((37, 44)),
+    ),
+    // a component that is empty differs from one that is not there
+    ("", None, None, (0, 0), None, None),
+    ("//", None, Some((2, 2)), (2, 2), None, None),
+    ("?", None, None, (0, 0), Some((1, 1)), None),
+    ("#", None, None, (0, 0), None, Some((1, 1))),
+    ("a:", Some((0, 1)), None, (2, 2), None, None),
+    (
+        "a:?#",
+        Some((0, 1)),
+        None,
+        (2, 2),
+        Some((3, 3)),
+        Some((4, 4)),
+    ),
+    (
+        "a://?#",
+        Some((0, 1)),
+        Some((4, 4)),
+        (4, 4),
+        Some((5, 5)),
+        Some((6, 6)),
+    ),
+    ("/a:b", None, None, (0, 4), None, None),
+    (
+        "//a?b/c#d?e",
+        None,
+        Some((2, 3)),
+        (3, 3),
+        Some((4, 7)),
+        Some((8, 11)),
+    ),
+];
+
+fn span(ends: (u64, u64)) -> Span {
+    Span {
+        from: ends.0,
+        to: ends.1,
+    }
 }
 
-/// RFC 3986, section 3, and what is no scheme or no IRI.
+fn some_span(ends: Option<(u64, u64)>) -> Option<Span> {
+    match ends {
+        Some(ends) => Some(span(ends)),
+        None => None,
+    }
+}
+
 #[test]
-fn texts_are_parted(rt: HostRuntime) {
-    let foo = "foo://example.com:8042/over/there?name=ferret#nose";
-    let span = |from: u64, to: u64| Span { from, to };
-    let parts = Parts {
-        scheme: Some(span(0, 3)),
-        authority: Some(span(6, 22)),
-        path: span(22, 33),
-        query: Some(span(34, 45)),
-        fragment: Some(span(46, 50)),
-    };
-    assert!(rt; parse(foo) == Ok(parts));
+fn texts_have_the_components_of_the_standard(rt: HostRuntime) {
+    for (text, scheme, authority, path, query, fragment) in PARTS {
+        let wanted = Parts {
+            scheme: some_span(scheme),
+            authority: some_span(authority),
+            path: span(path),
+            query: some_span(query),
+            fragment: some_span(fragment),
+        };
+        assert!(rt; parse(text) == Ok(wanted), "{text}");
+    }
+    // no scheme by the grammar of 3.1, where the regular expression has one
     let path_alone = Parts {
         scheme: None,
         authority: None,
-        path: span(0, 4),
+        path: span((0, 4)),
         query: None,
         fragment: None,
     };
     assert!(rt; parse("1a:b") == Ok(path_alone));
-    assert!(rt; parse("a b>") == Err(BadAt { at: 1 }));
     for (text, absolute) in [
         ("a+1.-:", true),
         ("1a:b", false),
         (":b", false),
         ("a/b:c", false),
+        ("a?b:c", false),
         ("a:b c", false),
         ("a", false),
+        ("", false),
+        ("é:b", false),
     ] {
         assert!(rt; is_absolute(text) == absolute, "{text}");
     }
+    for (text, parts) in [
+        ("", None),
+        ("a", None),
+        (":", None),
+        (":a", None),
+        ("a:", Some(("a", ""))),
+        ("a:b", Some(("a", "b"))),
+        ("a:b:c", Some(("a", "b:c"))),
+        ("::", Some((":", ""))),
+        (":a:b", Some((":a", "b"))),
+        ("_:b0", Some(("_", "b0"))),
+        ("http://a", Some(("http", "//a"))),
+        ("é:é", Some(("é", "é"))),
+    ] {
+        assert!(rt; split_at_colon(text) == parts, "{text}");
+    }
+}
+
+/// What no IRI holds, from U+0021 on: RDF 1.1 N-Quads, 4, IRIREF.
+const FORBIDDEN: &str = "<>\"{}|^`\\";
+
+/// ALPHA, and what else stands in a scheme behind its first letter: RFC 3986, 3.1.
+const ALPHA: &str = "ABCDEFGHIJKLMNOPQRSTUVWXYZabcdefghijklmnopqrstuvwxyz";
+
+const OTHERS_IN_SCHEME: &str = "0123456789+-.";
+
+/// Each ASCII character, within an IRI, within a scheme and at the front of one.
+#[test]
+fn characters_are_those_of_the_standard(rt: HostRuntime) -> Result<(), Fail> {
+    for code in 0..128u8 {
+        let character = code as char;
+        let forbidden = code <= 32 || FORBIDDEN.contains(character);
+        let within = format!(in rt.alloc(); "a/{character}é")?;
+        let refused = parse(within.as_str()) == Err(BadAt { at: 2 });
+        assert!(rt; refused == forbidden, "{code}");
+        assert!(rt; parse(within.as_str()).is_ok() != forbidden, "{code}");
+        let letter = ALPHA.contains(character);
+        let front = format!(in rt.alloc(); "{character}:b")?;
+        assert!(rt; is_absolute(front.as_str()) == letter, "{code}");
+        let second = format!(in rt.alloc(); "a{character}:b")?;
+        // `a::b` has the scheme `a`
+        let scheme = letter || OTHERS_IN_SCHEME.contains(character) || character == ':';
+        assert!(rt; is_absolute(second.as_str()) == scheme, "{code}");
+    }
+    Ok(())
 }

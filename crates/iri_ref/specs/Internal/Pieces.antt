@@ -16,5 +16,5 @@ texts p = record {
 }
 
 -- the texts that a list borrows
-abbrev pub shown : List (Bor (List ℕ)) → List (List ℕ)
-shown parts = map (λ (s : Bor (List ℕ)). s.now) parts
+abbrev pub texts_of : List (Bor (List ℕ)) → List (List ℕ)
+texts_of parts = map (λ (s : Bor (List ℕ)). s.now) parts
