@@ -102,6 +102,8 @@ pub fn encode(alloc: Global, item: &Item) -> Result<Vec<u8>, Memory>
     ensures written { IfOk result (λ bytes. bytes.items ≡ encoding_of item.now) }
     // They spell the item.
     ensures spelled { IfOk result (λ bytes. Encodes 4 item.now (count_of item.now) bytes.items) }
+    // What the types of Rust keep holds of it.
+    ensures fits { IfOk result (λ _. fits item.now ≡ true) }
     // They read back as the item.
     ensures reads_back { IfOk result (λ bytes. ReadsAs bytes.items (Ok item.now)) }
 {

@@ -12,7 +12,7 @@ use Rattle.base64.proofs.RoundTrip.{length-encode_symbols}
 use Rattle.base64.proofs.EngineFacts.{IsAscii-encode_of}
 use Rattle.cbor_core.specs.declared.item.Item.TheVariants as v
 use Rattle.cbor_core.specs.Grammar.{head_of}
-use Rattle.cbor_core.specs.Writing.{encoding_of}
+use Rattle.cbor_core.specs.Writing.{encoding_of, count_of}
 use Rattle.cbor_core.proofs.Writes.{spelling-List, spelling-Blob}
 use Rattle.proof_cbor.specs.declared.value.BaseValue.{BaseValue}
 use Rattle.proof_cbor.specs.Values.{base_header, base_item, base_proof_bytes, with_signature, multibase_text, IsDraft, CanWriteBase}
@@ -44,9 +44,9 @@ long_enough value long =
 
 pub put_bytes : (value : BaseValue) (old new signature : List ℕ) → IsDraft value old → length signature ≡ 64 → new ≡ take 6 old ++ (signature ++ drop 70 old) → new ≡ base_proof_bytes (with_signature value signature)
 put_bytes value old new signature draft long is =
-    let s : old ≡ front ++ (value.signature ++ behind_signature value) = draft.1 ∙ split_bytes value draft.0 in
+    let s : old ≡ front ++ (value.signature ++ behind_signature value) = draft.2 ∙ split_bytes value draft.0.0.signature in
     let first : take 6 old ≡ front = ap (take 6) s in
-    let last : drop 70 old ≡ behind_signature value = ap (drop 70) s ∙ drop_at (front ++ value.signature) (behind_signature value) 70 (omega (arith, draft.0)) in
+    let last : drop 70 old ≡ behind_signature value = ap (drop 70) s ∙ drop_at (front ++ value.signature) (behind_signature value) 70 (omega (arith, draft.0.0.signature)) in
     is ∙ rw (first, last) (sym (split_bytes (with_signature value signature) long))
 
 length_encoded : (bytes : List ℕ) → length (encode_of url_safe_no_pad bytes) ≡ encoded_size_of url_safe_no_pad (length bytes)
@@ -58,8 +58,8 @@ length_text bytes text is = ap length is ∙ omega (arith, length_encoded bytes)
 pub long_bytes : (value : BaseValue) (bytes : List ℕ) → CanWriteBase value → bytes ≡ base_proof_bytes value → 70 ≤ length bytes
 long_bytes value bytes can is = subst (λ (z : List ℕ). 70 ≤ length z) (sym is) (long_enough value can.0.signature)
 
-pub draft_is : (value : BaseValue) (bytes : List ℕ) → CanWriteBase value → bytes ≡ base_proof_bytes value → IsDraft value bytes
-draft_is value bytes can is = (can.0.signature, is)
+pub draft_is : (value : BaseValue) (bytes : List ℕ) → CanWriteBase value → count_of (base_item value) ≤ 100000 → bytes ≡ base_proof_bytes value → IsDraft value bytes
+draft_is value bytes can few is = (can, few, is)
 
 ascii_text : (bytes : List ℕ) → IsAscii (multibase_text bytes)
 ascii_text bytes zero = omega arith

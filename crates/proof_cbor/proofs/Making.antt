@@ -10,9 +10,11 @@ use Rattle.cbor_core.specs.declared.item.Item.{Item, fold-roll-Item}
 use Rattle.cbor_core.specs.declared.item.Item.TheOpen.{Item-F}
 use Rattle.cbor_core.specs.declared.item.Item.TheVariants as v
 use Rattle.cbor_core.specs.declared.item.Pair.{Pair}
-use Rattle.cbor_core.specs.Writing.{largest_over, nesting_step, item_nesting, count_of, keys_rise_step, keys_rise, encoding_of}
+use Rattle.cbor_core.specs.Writing.{largest_over, nesting_step, item_nesting, count_of, keys_rise_step, keys_rise, encoding_of, fits}
 use Rattle.base_types.specs.Order.{rise}
-use Rattle.cbor_core.proofs.Lawful.{nesting-List, nesting-Map, rise-List, rise-Map}
+use Rattle.cbor_core.proofs.Lawful.{nesting-List, nesting-Map, rise-List, rise-Map, count-List, count-Blob, of-List, is_spelled}
+use Rattle.cbor_core.proofs.Writes.{fits-Blob, fits-List}
+use Rattle.cbor_core.specs.Grammar.{Encodes}
 use Rattle.base_types.specs.declared.memory.Memory.{Memory}
 use Rattle.proof_cbor.specs.Internal.Reading.{reading_base, reading_derived}
 use Rattle.cbor_core.proofs.Sorted.{kept}
@@ -21,7 +23,7 @@ use Rattle.proof_cbor.proofs.Spelled.{base_read, derived_read}
 use Rattle.proof_cbor.specs.declared.value.BaseValue.{BaseValue}
 use Rattle.proof_cbor.specs.declared.value.DerivedValue.{DerivedValue}
 use Rattle.proof_cbor.specs.declared.value.MapEntry.{MapEntry}
-use Rattle.proof_cbor.specs.Values.{all_sized, digests_sized, pair_of, base_item, derived_item, base_proof_bytes, derived_proof_bytes, multibase_text, CanWriteBase, CanWriteDerived, SpellsBase, SpellsDerived}
+use Rattle.proof_cbor.specs.Values.{all_sized, digests_sized, pair_of, base_item, derived_item, base_proof_bytes, derived_proof_bytes, multibase_text, with_signature, CanWriteBase, CanWriteDerived, SpellsBase, SpellsDerived}
 use Rattle.base64.specs.GeneralPurpose.{IsBytes}
 
 pub making_end : {X Y : Type 0} (f : X → Y) (xs : List X) (i : ℕ) (done : List Y) → length xs ≤ i → done ≡ map f (take i xs) → done ≡ map f xs
@@ -159,21 +161,51 @@ pub ruleset may_steps = (base_rises, base_nests, derived_rises, derived_nests)
 
 -- ---- the text of a value
 
+base_encodes : (value : BaseValue) → CanWriteBase value → Encodes 4 (base_item value) (count_of (base_item value)) (encoding_of (base_item value))
+base_encodes value can = is_spelled (base_item value) (encoding_of (base_item value)) [] refl refl can.1 (base_rises value (base_item value) refl) (base_nests value (base_item value) refl)
+
+derived_encodes : (value : DerivedValue) → CanWriteDerived value → rise (map number_of value.labels) ≡ true → Encodes 4 (derived_item value) (count_of (derived_item value)) (encoding_of (derived_item value))
+derived_encodes value can r = is_spelled (derived_item value) (encoding_of (derived_item value)) [] refl refl can.1 (derived_rises value (derived_item value) r refl) (derived_nests value (derived_item value) refl)
+
 pub base_is_text : (value : BaseValue) (bytes text : List ℕ) → CanWriteBase value → count_of (base_item value) ≤ 100000 → IsBytes bytes → bytes ≡ base_proof_bytes value → text ≡ multibase_text bytes → SpellsBase value text
 base_is_text value bytes text can le small is t =
-    record { sizes = can.0; spelled = (count_of (base_item value), encoding_of (base_item value), le, can.1, (subst IsBytes is small, t ∙ ap multibase_text is)) }
+    record { sizes = can.0; spelled = (count_of (base_item value), encoding_of (base_item value), le, base_encodes value can, (subst IsBytes is small, t ∙ ap multibase_text is)) }
 
-pub derived_is_text : (value : DerivedValue) (bytes text : List ℕ) → CanWriteDerived value → rise value.indexes ≡ true → count_of (derived_item value) ≤ 100000 → IsBytes bytes → bytes ≡ derived_proof_bytes value → text ≡ multibase_text bytes → SpellsDerived value text
-derived_is_text value bytes text can r le small is t =
-    record { sizes = can.0; rising = r; spelled = (count_of (derived_item value), encoding_of (derived_item value), le, can.1, (subst IsBytes is small, t ∙ ap multibase_text is)) }
+pub derived_is_text : (value : DerivedValue) (bytes text : List ℕ) → CanWriteDerived value → rise (map number_of value.labels) ≡ true → rise value.indexes ≡ true → count_of (derived_item value) ≤ 100000 → IsBytes bytes → bytes ≡ derived_proof_bytes value → text ≡ multibase_text bytes → SpellsDerived value text
+derived_is_text value bytes text can l r le small is t =
+    record { sizes = can.0; rising = r; spelled = (count_of (derived_item value), encoding_of (derived_item value), le, derived_encodes value can l, (subst IsBytes is small, t ∙ ap multibase_text is)) }
 
 pub base_text : (value : BaseValue) (bytes seen : List ℕ) (result : Result (List ℕ) Memory) → CanWriteBase value → count_of (base_item value) ≤ 100000 → IsBytes seen → seen ≡ bytes → bytes ≡ base_proof_bytes value → IfOk result (λ text. text ≡ multibase_text seen) → IfOk result (λ (text : List ℕ). SpellsBase value text)
 base_text value bytes seen (Ok text) can le small same is t = base_is_text value seen text can le small (same ∙ is) t
 base_text value bytes seen (Err e) can le small same is t = tt
 
-pub derived_text : (value : DerivedValue) (bytes seen : List ℕ) (result : Result (List ℕ) Memory) → CanWriteDerived value → rise value.indexes ≡ true → count_of (derived_item value) ≤ 100000 → IsBytes seen → seen ≡ bytes → bytes ≡ derived_proof_bytes value → IfOk result (λ text. text ≡ multibase_text seen) → IfOk result (λ (text : List ℕ). SpellsDerived value text)
-derived_text value bytes seen (Ok text) can r le small same is t = derived_is_text value seen text can r le small (same ∙ is) t
-derived_text value bytes seen (Err e) can r le small same is t = tt
+pub derived_text : (value : DerivedValue) (bytes seen : List ℕ) (result : Result (List ℕ) Memory) → CanWriteDerived value → rise (map number_of value.labels) ≡ true → rise value.indexes ≡ true → count_of (derived_item value) ≤ 100000 → IsBytes seen → seen ≡ bytes → bytes ≡ derived_proof_bytes value → IfOk result (λ text. text ≡ multibase_text seen) → IfOk result (λ (text : List ℕ). SpellsDerived value text)
+derived_text value bytes seen (Ok text) can l r le small same is t = derived_is_text value seen text can l r le small (same ∙ is) t
+derived_text value bytes seen (Err e) can l r le small same is t = tt
+
+-- ---- the value with another signature
+
+-- it may be written as the value may
+pub can_sign : (value : BaseValue) (signature : List ℕ) → CanWriteBase value → length signature ≡ 64 → CanWriteBase (with_signature value signature)
+unfolding base_item
+can_sign value signature can long =
+    let rest = v.Blob value.key ∷ v.Blob value.secret ∷ v.List (map v.Blob value.signatures) ∷ v.List (map v.Text value.pointers) ∷ [] in
+    let old = of-List (v.Blob value.signature ∷ rest) can.1 in
+    let others = and_parts (fits (v.Blob value.signature)) (list_all fits rest) old.1 in
+    let first : fits (v.Blob signature) ≡ true = fits-Blob signature (omega (arith, long)) in
+    let all : (fits (v.Blob signature) && list_all fits rest) ≡ true = rw first others.1 in (
+      record { signature = long; key = can.0.key; secret = can.0.secret; signatures = can.0.signatures },
+      fits-List (v.Blob signature ∷ rest) old.0 all,
+    )
+
+-- and it has as many items
+pub same_count : (value : BaseValue) (signature : List ℕ) → count_of (base_item (with_signature value signature)) ≡ count_of (base_item value)
+unfolding base_item
+same_count value signature =
+    let rest = v.Blob value.key ∷ v.Blob value.secret ∷ v.List (map v.Blob value.signatures) ∷ v.List (map v.Text value.pointers) ∷ [] in
+    let new = count-List (v.Blob signature ∷ rest) in
+    let old = count-List (v.Blob value.signature ∷ rest) in
+    omega (arith, new, old, count-Blob signature, count-Blob value.signature)
 
 -- ---- what was read may be written
 

@@ -8,7 +8,7 @@ use Rattle.cbor_core.specs.declared.item.Item.{Item}
 use Rattle.cbor_core.specs.declared.item.Item.TheVariants as v
 use Rattle.cbor_core.specs.declared.item.Pair.{Pair}
 use Rattle.cbor_core.specs.Grammar.{Encodes}
-use Rattle.cbor_core.specs.Writing.{encoding_of, count_of}
+use Rattle.cbor_core.specs.Writing.{encoding_of, count_of, fits}
 use Rattle.base_types.specs.Order.{rise}
 use Rattle.proof_cbor.specs.declared.value.BaseValue.{BaseValue}
 use Rattle.proof_cbor.specs.declared.value.DerivedValue.{DerivedValue}
@@ -93,21 +93,18 @@ base_proof_bytes value = base_header ++ encoding_of (base_item value)
 abbrev pub derived_proof_bytes : DerivedValue → List ℕ
 derived_proof_bytes value = derived_header ++ encoding_of (derived_item value)
 
--- the value is one of Rust's types, and its bytes spell it
+-- the value is one of the types of Rust: its byte strings have their lengths, and all else fits
 abbrev pub CanWriteBase : BaseValue → Type 0
-CanWriteBase value =
-    BaseSizes value
-    × Encodes 4 (base_item value) (count_of (base_item value)) (encoding_of (base_item value))
+CanWriteBase value = BaseSizes value × (fits (base_item value) ≡ true)
 
 abbrev pub CanWriteDerived : DerivedValue → Type 0
-CanWriteDerived value =
-    DerivedSizes value
-    × Encodes 4 (derived_item value) (count_of (derived_item value)) (encoding_of (derived_item value))
+CanWriteDerived value = DerivedSizes value × (fits (derived_item value) ≡ true)
 
 -- the base value with another signature
 abbrev pub with_signature : BaseValue → List ℕ → BaseValue
 with_signature value signature = record value { signature = signature }
 
--- the bytes of a draft are those of the value
+-- the bytes of a draft are those of the value, which may be written
 abbrev pub IsDraft : BaseValue → List ℕ → Type 0
-IsDraft value bytes = (length value.signature ≡ 64) × (bytes ≡ base_proof_bytes value)
+IsDraft value bytes =
+    CanWriteBase value × (count_of (base_item value) ≤ 100000) × (bytes ≡ base_proof_bytes value)

@@ -1,11 +1,12 @@
 //! A base value whose signature is still to come.
 
-ghost use Rattle.std.specs.Prelude.{◌≡◌, ◌≤◌, ◌+◌, ◌++◌, length, take, drop, string_bytes, IfOk};
+ghost use Rattle.std.specs.Prelude.{◌≡◌, ◌≤◌, ◌+◌, ◌++◌, length, take, drop, string_bytes, IfOk, Ok};
 ghost use Rattle.std.specs.Str.{IsUtf8};
 ghost use Rattle.base64.specs.Engines.{url_safe_no_pad};
 ghost use Rattle.base64.specs.GeneralPurpose.{IsBytes, encoded_size_of};
 ghost use Rattle.cbor_core.specs.Writing.{count_of};
 ghost use Rattle.proof_cbor.specs.declared.value.BaseValue.{BaseValue};
+ghost use Rattle.proof_cbor.specs.Refusals.{ReadsBase};
 ghost use Rattle.proof_cbor.specs.Values.{multibase_text, base_item, base_proof_bytes, with_signature, CanWriteBase, IsDraft, SpellsBase};
 
 use crate::encoding::{bytes_of_base, text_in};
@@ -105,11 +106,12 @@ impl BaseDraft {
     pub fn finish(self, signature: &[u8; 64]) -> Text
         ensures text { (value : BaseValue) → IsDraft value self
             → result ≡ multibase_text (base_proof_bytes (with_signature value signature.now)) }
-        // It spells that value, where this can be written.
+        // It spells that value.
         ensures spelled { (value : BaseValue) → IsDraft value self
-            → CanWriteBase (with_signature value signature.now)
-            → count_of (base_item (with_signature value signature.now)) ≤ 100000
             → SpellsBase (with_signature value signature.now) result }
+        // It reads back as that value.
+        ensures reads_back { (value : BaseValue) → IsDraft value self
+            → ReadsBase result (Ok (with_signature value signature.now)) }
         ensures long { length signature.now ≡ 64 }
     {
         let BaseDraft { bytes, text } = self;

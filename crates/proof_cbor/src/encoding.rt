@@ -2,8 +2,7 @@
 
 ghost use Rattle.std.specs.Prelude.{◌≡◌, ◌≤◌, ◌++◌, true, map, IfOk, Ok};
 ghost use Rattle.base64.specs.GeneralPurpose.{IsBytes};
-ghost use Rattle.cbor_core.specs.Grammar.{Encodes};
-ghost use Rattle.cbor_core.specs.Writing.{item_nesting, count_of, keys_rise, encoding_of};
+ghost use Rattle.cbor_core.specs.Writing.{item_nesting, count_of, keys_rise, encoding_of, fits};
 ghost use Rattle.base_types.specs.Order.{rise};
 ghost use Rattle.proof_cbor.specs.declared.value.MapEntry.{MapEntry};
 ghost use Rattle.proof_cbor.specs.Values.{multibase_text, base_item, derived_item, base_proof_bytes, derived_proof_bytes, CanWriteBase, CanWriteDerived, SpellsBase, SpellsDerived};
@@ -23,8 +22,7 @@ fn bytes_behind(alloc: Global, header: &[u8; 3], item: &Item) -> Result<Vec<u8>,
     requires nesting { item_nesting item.now ≤ 4 }
     requires count { count_of item.now ≤ 100000 }
     ensures written { IfOk result (λ bytes. bytes.items ≡ header.now ++ encoding_of item.now) }
-    ensures spelled { IfOk result
-        (λ _. Encodes 4 item.now (count_of item.now) (encoding_of item.now)) }
+    ensures fits { IfOk result (λ _. fits item.now ≡ true) }
 {
     let spelling = encode(alloc, item)?;
     let mut bytes = Vec::new(alloc);
@@ -49,7 +47,7 @@ pub fn text_in(alloc: Global, bytes: &[u8]) -> Result<Text, Memory>
 pub fn bytes_of_base(alloc: Global, value: &BaseValue) -> Result<Vec<u8>, Memory>
     requires { count_of (base_item value.now) ≤ 100000 }
     ensures written { IfOk result (λ bytes. bytes.items ≡ base_proof_bytes value.now) }
-    ensures spelled { IfOk result (λ _. CanWriteBase value.now) }
+    ensures can_write { IfOk result (λ _. CanWriteBase value.now) }
 {
     let item = item_of_base(alloc, value)?;
     bytes_behind(alloc, &BASE_HEADER, &item)
@@ -62,7 +60,7 @@ fn bytes_of_derived(alloc: Global, value: &DerivedValue) -> Result<Vec<u8>, Memo
     requires indexes { rise value.now.indexes ≡ true }
     requires count { count_of (derived_item value.now) ≤ 100000 }
     ensures written { IfOk result (λ bytes. bytes.items ≡ derived_proof_bytes value.now) }
-    ensures spelled { IfOk result (λ _. CanWriteDerived value.now) }
+    ensures can_write { IfOk result (λ _. CanWriteDerived value.now) }
 {
     let item = item_of_derived(alloc, value)?;
     bytes_behind(alloc, &DERIVED_HEADER, &item)

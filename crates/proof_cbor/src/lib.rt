@@ -14,6 +14,7 @@ mod fault;
 mod headers;
 mod items;
 mod kinds;
+mod laws;
 mod lists;
 mod parts;
 mod value;
@@ -24,6 +25,7 @@ pub use decoding::{decode_base, decode_derived};
 pub use draft::{BaseDraft, draft_base};
 pub use encoding::{encode_base, encode_derived};
 pub use fault::{Part, ValueFault};
+pub use laws::a_text_has_one_outcome;
 pub use value::{BaseValue, DerivedValue, MapEntry};
 
 #[cfg(test)]

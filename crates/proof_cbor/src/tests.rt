@@ -324,31 +324,74 @@ fn parts_of_another_kind_or_length(rt: HostRuntime) {
     assert!(rt; decode_base(rt.alloc(), &text).err() == Some(ValueFault::Shape(Part::Array)));
 }
 
-/// The base value with a signature of bytes 255.
-const SIGNED: &str =
-    "u2V0AhVhA_____________________________________________________________________________________1gjAAEAAAAAAAAAAAAAAAAAAAAAAAAAAAAAAAAAAAAAAAAAAAFYIAAAAAAAAAAAAAAAAAAAAAAAAAAAAAAAAAAAAAAAAAABgIFg";
+/// A base value with two signatures and two pointers, as Python's `base64` and `struct` write it.
+const BASE_FULL: &str =
+    "u2V0AhVhAAAECAwQFBgcICQoLDA0ODxAREhMUFRYXGBkaGxwdHh8gISIjJCUmJygpKissLS4vMDEyMzQ1Njc4OTo7PD0-P1gjZGVmZ2hpamtsbW5vcHFyc3R1dnd4eXp7fH1-f4CBgoOEhYZYIMjJysvMzc7P0NHS09TV1tfY2drb3N3e3-Dh4uPk5ebnglhAIiIiIiIiIiIiIiIiIiIiIiIiIiIiIiIiIiIiIiIiIiIiIiIiIiIiIiIiIiIiIiIiIiIiIiIiIiIiIiIiIiIiI1hARERERERERERERERERERERERERERERERERERERERERERERERERERERERERERERERERERERERERERERERERERERYJgZy9hfjFiLzA";
 
-/// A derived value with the labels 24 and 0, in this order, and the indexes 1 and 23.
+/// The same value with a signature of bytes 255.
+const BASE_SIGNED: &str =
+    "u2V0AhVhA_____________________________________________________________________________________1gjZGVmZ2hpamtsbW5vcHFyc3R1dnd4eXp7fH1-f4CBgoOEhYZYIMjJysvMzc7P0NHS09TV1tfY2drb3N3e3-Dh4uPk5ebnglhAIiIiIiIiIiIiIiIiIiIiIiIiIiIiIiIiIiIiIiIiIiIiIiIiIiIiIiIiIiIiIiIiIiIiIiIiIiIiIiIiIiIiI1hARERERERERERERERERERERERERERERERERERERERERERERERERERERERERERERERERERERERERERERERERERERYJgZy9hfjFiLzA";
+
+/// A derived value with two signatures, the labels 1000, 24 and 0, in this order, and the indexes 1, 23
+/// and 500.
 const FALLING: &str =
-    "u2V0BhVhAAAAAAAAAAAAAAAAAAAAAAAAAAAAAAAAAAAAAAAAAAAAAAAAAAAAAAAAAAAAAAAAAAAAAAAAAAAAAAAAAAAAAAFgjAAAAAAAAAAAAAAAAAAAAAAAAAAAAAAAAAAAAAAAAAAAAAACBWEAiIiIiIiIiIiIiIiIiIiIiIiIiIiIiIiIiIiIiIiIiIiIiIiIiIiIiIiIiIiIiIiIiIiIiIiIiIiIiIiIiIiIiohgYWCAzMzMzMzMzMzMzMzMzMzMzMzMzMzMzMzMzMzMzMzMzMwBYIBERERERERERERERERERERERERERERERERERERERERERggEX";
+    "u2V0BhVhAAAECAwQFBgcICQoLDA0ODxAREhMUFRYXGBkaGxwdHh8gISIjJCUmJygpKissLS4vMDEyMzQ1Njc4OTo7PD0-P1gjZGVmZ2hpamtsbW5vcHFyc3R1dnd4eXp7fH1-f4CBgoOEhYaCWEAiIiIiIiIiIiIiIiIiIiIiIiIiIiIiIiIiIiIiIiIiIiIiIiIiIiIiIiIiIiIiIiIiIiIiIiIiIiIiIiIiIiIjWEBERERERERERERERERERERERERERERERERERERERERERERERERERERERERERERERERERERERERERERERERERERFoxkD6FggVVVVVVVVVVVVVVVVVVVVVVVVVVVVVVVVVVVVVVVVVVYYGFggMzMzMzMzMzMzMzMzMzMzMzMzMzMzMzMzMzMzMzMzMzQAWCAREREREREREREREREREREREREREREREREREREREREREoMBFxkB9A";
 
 /// The same value with its labels by rising number.
 const RISING: &str =
-    "u2V0BhVhAAAAAAAAAAAAAAAAAAAAAAAAAAAAAAAAAAAAAAAAAAAAAAAAAAAAAAAAAAAAAAAAAAAAAAAAAAAAAAAAAAAAAAFgjAAAAAAAAAAAAAAAAAAAAAAAAAAAAAAAAAAAAAAAAAAAAAACBWEAiIiIiIiIiIiIiIiIiIiIiIiIiIiIiIiIiIiIiIiIiIiIiIiIiIiIiIiIiIiIiIiIiIiIiIiIiIiIiIiIiIiIiogBYIBERERERERERERERERERERERERERERERERERERERERERGBhYIDMzMzMzMzMzMzMzMzMzMzMzMzMzMzMzMzMzMzMzMzMzggEX";
+    "u2V0BhVhAAAECAwQFBgcICQoLDA0ODxAREhMUFRYXGBkaGxwdHh8gISIjJCUmJygpKissLS4vMDEyMzQ1Njc4OTo7PD0-P1gjZGVmZ2hpamtsbW5vcHFyc3R1dnd4eXp7fH1-f4CBgoOEhYaCWEAiIiIiIiIiIiIiIiIiIiIiIiIiIiIiIiIiIiIiIiIiIiIiIiIiIiIiIiIiIiIiIiIiIiIiIiIiIiIiIiIiIiIjWEBERERERERERERERERERERERERERERERERERERERERERERERERERERERERERERERERERERERERERERERERERERFowBYIBERERERERERERERERERERERERERERERERERERERERESGBhYIDMzMzMzMzMzMzMzMzMzMzMzMzMzMzMzMzMzMzMzMzM0GQPoWCBVVVVVVVVVVVVVVVVVVVVVVVVVVVVVVVVVVVVVVVVVVoMBFxkB9A";
+
+/// Whether the bytes count on from the first.
+fn count_on(bytes: &[u8], first: u8) -> bool {
+    bytes.iter().enumerate().all(|(i, byte)| *byte == first.wrapping_add(i as u8))
+}
+
+/// Whether all bytes are the first, but the last one, which is one more.
+fn ends_one_up(bytes: &[u8], first: u8) -> bool {
+    let [front @ .., last] = bytes else {
+        return false;
+    };
+    front.iter().all(|byte| *byte == first) && *last == first.wrapping_add(1)
+}
 
 #[test]
-fn values_are_written_back(rt: HostRuntime) {
-    let base = decode_base(rt.alloc(), BASE).expect(&rt, "a value");
-    assert!(rt; base.signatures.is_empty() && base.pointers.len() == 1);
-    assert!(rt; base.key[0] == 0 && base.key[34] == 1);
+fn parts_of_a_base_value(rt: HostRuntime) {
+    let base = decode_base(rt.alloc(), BASE_FULL).expect(&rt, "a value");
+    assert!(rt; count_on(&base.signature, 0) && count_on(&base.key, 100) && count_on(&base.secret, 200));
+    assert!(rt; base.signatures.len() == 2 && base.pointers.len() == 2);
+    for (signature, first) in base.signatures.as_slice().iter().zip([0x22, 0x44]) {
+        assert!(rt; ends_one_up(signature, first), "at {first}");
+    }
+    for (pointer, want) in base.pointers.as_slice().iter().zip(["", "/a~1b/0"]) {
+        assert!(rt; pointer.as_str() == want, "at {want}");
+    }
     let text = encode_base(rt.alloc(), &base).expect(&rt, "a value");
-    assert!(rt; text.as_str() == BASE);
+    assert!(rt; text.as_str() == BASE_FULL);
     let draft = draft_base(rt.alloc(), &base).expect(&rt, "a value");
     let text = draft.finish(&[255; 64]);
-    assert!(rt; text.as_str() == SIGNED);
-    for (read, written) in [(DERIVED, DERIVED), (FALLING, RISING), (RISING, RISING)] {
+    assert!(rt; text.as_str() == BASE_SIGNED);
+    let base = decode_base(rt.alloc(), BASE).expect(&rt, "a value");
+    let text = encode_base(rt.alloc(), &base).expect(&rt, "a value");
+    assert!(rt; text.as_str() == BASE);
+}
+
+#[test]
+fn parts_of_a_derived_value(rt: HostRuntime) {
+    for (read, written) in [(FALLING, RISING), (RISING, RISING)] {
         let derived = decode_derived(rt.alloc(), read).expect(&rt, "a value");
+        assert!(rt; count_on(&derived.signature, 0) && count_on(&derived.key, 100));
+        assert!(rt; derived.signatures.len() == 2 && derived.labels.len() == 3);
+        for (signature, first) in derived.signatures.as_slice().iter().zip([0x22, 0x44]) {
+            assert!(rt; ends_one_up(signature, first), "at {first}");
+        }
+        for (label, (number, first)) in derived.labels.as_slice().iter().zip([(0, 0x11), (24, 0x33), (1000, 0x55)]) {
+            assert!(rt; label.number == number && ends_one_up(&label.digest, first), "at {number}");
+        }
+        assert!(rt; derived.indexes.as_slice() == [1, 23, 500].as_slice());
         let text = encode_derived(rt.alloc(), &derived).expect(&rt, "a value");
         assert!(rt; text.as_str() == written, "at {read}");
     }
+    let derived = decode_derived(rt.alloc(), DERIVED).expect(&rt, "a value");
+    let text = encode_derived(rt.alloc(), &derived).expect(&rt, "a value");
+    assert!(rt; text.as_str() == DERIVED);
 }

@@ -3,7 +3,7 @@ use Rattle.proof_cbor.proofs.encoding.encode_derived.Goals as goal
 
 pub returns-clause-spelled : goal.returns-clause-spelled
 returns-clause-spelled c =
-    derived_text c.args.value.now c.in_ok-bytes.bytes.items c.deref.result.now c.text_in.result c.in_ok-bytes.ensures.spelled c.requires.indexes c.requires.count c.text_in.ensures.proper c.deref.ensures.value c.in_ok-bytes.ensures.written c.text_in.ensures.text
+    derived_text c.args.value.now c.in_ok-bytes.bytes.items c.deref.result.now c.text_in.result c.in_ok-bytes.ensures.can_write c.requires.labels c.requires.indexes c.requires.count c.text_in.ensures.proper c.deref.ensures.value c.in_ok-bytes.ensures.written c.text_in.ensures.text
 
 pub returns-clause-reads_back : goal.returns-clause-reads_back
 returns-clause-reads_back c = returns-clause-spelled c
