@@ -26,10 +26,10 @@ pub fn search_by_key<T: Keyed>(entries: &[T], key: &str) -> Result<usize, usize>
     requires { each_next (λ x y. is_before (T.text x) (T.text y)) entries.now ≡ true }
     ensures { MatchResult result
         (λ at. (at < length entries.now)
-            × HoldsAt (λ x. slice_cmp nat_cmp (T.text x) key.now ≡ Equal) entries.now at)
+        × HoldsAt (λ x. slice_cmp nat_cmp (T.text x) key.now ≡ Equal) entries.now at)
         (λ at. (at ≤ length entries.now)
-            × IsPartitionPoint (λ x. slice_cmp nat_cmp (T.text x) key.now ≡ Less)
-                (λ x. slice_cmp nat_cmp (T.text x) key.now ≡ Greater) entries.now at) }
+        × IsPartitionPoint (λ x. slice_cmp nat_cmp (T.text x) key.now ≡ Less)
+        (λ x. slice_cmp nat_cmp (T.text x) key.now ≡ Greater) entries.now at) }
 {
     let against_key = |entry: &T| -> Ordering
         ensures { result ≡ slice_cmp nat_cmp (T.text entry.now) key.entry.now }

@@ -9,9 +9,21 @@ use std::test::*;
 #[test]
 fn appendix_a_outside(rt: HostRuntime) {
     let cases: [(&str, &[u8], u64); 55] = [
-        ("18446744073709551616", b"\xc2\x49\x01\x00\x00\x00\x00\x00\x00\x00\x00", 0),
-        ("-18446744073709551616", b"\x3b\xff\xff\xff\xff\xff\xff\xff\xff", 0),
-        ("-18446744073709551617", b"\xc3\x49\x01\x00\x00\x00\x00\x00\x00\x00\x00", 0),
+        (
+            "18446744073709551616",
+            b"\xc2\x49\x01\x00\x00\x00\x00\x00\x00\x00\x00",
+            0,
+        ),
+        (
+            "-18446744073709551616",
+            b"\x3b\xff\xff\xff\xff\xff\xff\xff\xff",
+            0,
+        ),
+        (
+            "-18446744073709551617",
+            b"\xc3\x49\x01\x00\x00\x00\x00\x00\x00\x00\x00",
+            0,
+        ),
         ("-1", b"\x20", 0),
         ("-10", b"\x29", 0),
         ("-100", b"\x38\x63", 0),
@@ -35,35 +47,107 @@ fn appendix_a_outside(rt: HostRuntime) {
         ("Infinity, 4 bytes", b"\xfa\x7f\x80\x00\x00", 0),
         ("NaN, 4 bytes", b"\xfa\x7f\xc0\x00\x00", 0),
         ("-Infinity, 4 bytes", b"\xfa\xff\x80\x00\x00", 0),
-        ("Infinity, 8 bytes", b"\xfb\x7f\xf0\x00\x00\x00\x00\x00\x00", 0),
+        (
+            "Infinity, 8 bytes",
+            b"\xfb\x7f\xf0\x00\x00\x00\x00\x00\x00",
+            0,
+        ),
         ("NaN, 8 bytes", b"\xfb\x7f\xf8\x00\x00\x00\x00\x00\x00", 0),
-        ("-Infinity, 8 bytes", b"\xfb\xff\xf0\x00\x00\x00\x00\x00\x00", 0),
+        (
+            "-Infinity, 8 bytes",
+            b"\xfb\xff\xf0\x00\x00\x00\x00\x00\x00",
+            0,
+        ),
         ("false", b"\xf4", 0),
         ("true", b"\xf5", 0),
         ("null", b"\xf6", 0),
         ("undefined", b"\xf7", 0),
         ("simple(16)", b"\xf0", 0),
         ("simple(255)", b"\xf8\xff", 0),
-        (r#"0("2013-03-21T20:04:00Z")"#, b"\xc0\x74\x32\x30\x31\x33\x2d\x30\x33\x2d\x32\x31\x54\x32\x30\x3a\x30\x34\x3a\x30\x30\x5a", 0),
+        (
+            r#"0("2013-03-21T20:04:00Z")"#,
+            b"\xc0\x74\x32\x30\x31\x33\x2d\x30\x33\x2d\x32\x31\x54\x32\x30\x3a\x30\x34\x3a\x30\x30\x5a",
+            0,
+        ),
         ("1(1363896240)", b"\xc1\x1a\x51\x4b\x67\xb0", 0),
-        ("1(1363896240.5)", b"\xc1\xfb\x41\xd4\x52\xd9\xec\x20\x00\x00", 0),
+        (
+            "1(1363896240.5)",
+            b"\xc1\xfb\x41\xd4\x52\xd9\xec\x20\x00\x00",
+            0,
+        ),
         ("23(h'01020304')", b"\xd7\x44\x01\x02\x03\x04", 0),
         ("24(h'6449455446')", b"\xd8\x18\x45\x64\x49\x45\x54\x46", 0),
-        (r#"32("http://www.example.com")"#, b"\xd8\x20\x76\x68\x74\x74\x70\x3a\x2f\x2f\x77\x77\x77\x2e\x65\x78\x61\x6d\x70\x6c\x65\x2e\x63\x6f\x6d", 0),
-        (r#"{"a": 1, "b": [2, 3]}"#, b"\xa2\x61\x61\x01\x61\x62\x82\x02\x03", 1),
-        (r#"["a", {"b": "c"}]"#, b"\x82\x61\x61\xa1\x61\x62\x61\x63", 4),
-        (r#"{"a": "A", .. "e": "E"}"#, b"\xa5\x61\x61\x61\x41\x61\x62\x61\x42\x61\x63\x61\x43\x61\x64\x61\x44\x61\x65\x61\x45", 1),
-        ("(_ h'0102', h'030405')", b"\x5f\x42\x01\x02\x43\x03\x04\x05\xff", 0),
-        (r#"(_ "strea", "ming")"#, b"\x7f\x65\x73\x74\x72\x65\x61\x64\x6d\x69\x6e\x67\xff", 0),
+        (
+            r#"32("http://www.example.com")"#,
+            b"\xd8\x20\x76\x68\x74\x74\x70\x3a\x2f\x2f\x77\x77\x77\x2e\x65\x78\x61\x6d\x70\x6c\x65\x2e\x63\x6f\x6d",
+            0,
+        ),
+        (
+            r#"{"a": 1, "b": [2, 3]}"#,
+            b"\xa2\x61\x61\x01\x61\x62\x82\x02\x03",
+            1,
+        ),
+        (
+            r#"["a", {"b": "c"}]"#,
+            b"\x82\x61\x61\xa1\x61\x62\x61\x63",
+            4,
+        ),
+        (
+            r#"{"a": "A", .. "e": "E"}"#,
+            b"\xa5\x61\x61\x61\x41\x61\x62\x61\x42\x61\x63\x61\x43\x61\x64\x61\x44\x61\x65\x61\x45",
+            1,
+        ),
+        (
+            "(_ h'0102', h'030405')",
+            b"\x5f\x42\x01\x02\x43\x03\x04\x05\xff",
+            0,
+        ),
+        (
+            r#"(_ "strea", "ming")"#,
+            b"\x7f\x65\x73\x74\x72\x65\x61\x64\x6d\x69\x6e\x67\xff",
+            0,
+        ),
         ("[_ ]", b"\x9f\xff", 0),
-        ("[_ 1, [2, 3], [_ 4, 5]]", b"\x9f\x01\x82\x02\x03\x9f\x04\x05\xff\xff", 0),
-        ("[_ 1, [2, 3], [4, 5]]", b"\x9f\x01\x82\x02\x03\x82\x04\x05\xff", 0),
-        ("[1, [2, 3], [_ 4, 5]]", b"\x83\x01\x82\x02\x03\x9f\x04\x05\xff", 5),
-        ("[1, [_ 2, 3], [4, 5]]", b"\x83\x01\x9f\x02\x03\xff\x82\x04\x05", 2),
-        ("[_ 1, 2, .. 25]", b"\x9f\x01\x02\x03\x04\x05\x06\x07\x08\x09\x0a\x0b\x0c\x0d\x0e\x0f\x10\x11\x12\x13\x14\x15\x16\x17\x18\x18\x18\x19\xff", 0),
-        (r#"{_ "a": 1, "b": [_ 2, 3]}"#, b"\xbf\x61\x61\x01\x61\x62\x9f\x02\x03\xff\xff", 0),
-        (r#"["a", {_ "b": "c"}]"#, b"\x82\x61\x61\xbf\x61\x62\x61\x63\xff", 3),
-        (r#"{_ "Fun": true, "Amt": -2}"#, b"\xbf\x63\x46\x75\x6e\xf5\x63\x41\x6d\x74\x21\xff", 0),
+        (
+            "[_ 1, [2, 3], [_ 4, 5]]",
+            b"\x9f\x01\x82\x02\x03\x9f\x04\x05\xff\xff",
+            0,
+        ),
+        (
+            "[_ 1, [2, 3], [4, 5]]",
+            b"\x9f\x01\x82\x02\x03\x82\x04\x05\xff",
+            0,
+        ),
+        (
+            "[1, [2, 3], [_ 4, 5]]",
+            b"\x83\x01\x82\x02\x03\x9f\x04\x05\xff",
+            5,
+        ),
+        (
+            "[1, [_ 2, 3], [4, 5]]",
+            b"\x83\x01\x9f\x02\x03\xff\x82\x04\x05",
+            2,
+        ),
+        (
+            "[_ 1, 2, .. 25]",
+            b"\x9f\x01\x02\x03\x04\x05\x06\x07\x08\x09\x0a\x0b\x0c\x0d\x0e\x0f\x10\x11\x12\x13\x14\x15\x16\x17\x18\x18\x18\x19\xff",
+            0,
+        ),
+        (
+            r#"{_ "a": 1, "b": [_ 2, 3]}"#,
+            b"\xbf\x61\x61\x01\x61\x62\x9f\x02\x03\xff\xff",
+            0,
+        ),
+        (
+            r#"["a", {_ "b": "c"}]"#,
+            b"\x82\x61\x61\xbf\x61\x62\x61\x63\xff",
+            3,
+        ),
+        (
+            r#"{_ "Fun": true, "Amt": -2}"#,
+            b"\xbf\x63\x46\x75\x6e\xf5\x63\x41\x6d\x74\x21\xff",
+            0,
+        ),
     ];
     for (name, bytes, at) in cases {
         let fault = decode(rt.alloc(), bytes).err();
@@ -85,7 +169,10 @@ fn appendix_a_inside(rt: HostRuntime) -> Result<(), Fail> {
         ("1000", b"\x19\x03\xe8"),
         ("1000000", b"\x1a\x00\x0f\x42\x40"),
         ("1000000000000", b"\x1b\x00\x00\x00\xe8\xd4\xa5\x10\x00"),
-        ("18446744073709551615", b"\x1b\xff\xff\xff\xff\xff\xff\xff\xff"),
+        (
+            "18446744073709551615",
+            b"\x1b\xff\xff\xff\xff\xff\xff\xff\xff",
+        ),
         ("h''", b"\x40"),
         ("h'01020304'", b"\x44\x01\x02\x03\x04"),
         (r#""""#, b"\x60"),
@@ -98,12 +185,17 @@ fn appendix_a_inside(rt: HostRuntime) -> Result<(), Fail> {
         ("[]", b"\x80"),
         ("[1, 2, 3]", b"\x83\x01\x02\x03"),
         ("[1, [2, 3], [4, 5]]", b"\x83\x01\x82\x02\x03\x82\x04\x05"),
-        ("[1, 2, .. 25]", b"\x98\x19\x01\x02\x03\x04\x05\x06\x07\x08\x09\x0a\x0b\x0c\x0d\x0e\x0f\x10\x11\x12\x13\x14\x15\x16\x17\x18\x18\x18\x19"),
+        (
+            "[1, 2, .. 25]",
+            b"\x98\x19\x01\x02\x03\x04\x05\x06\x07\x08\x09\x0a\x0b\x0c\x0d\x0e\x0f\x10\x11\x12\x13\x14\x15\x16\x17\x18\x18\x18\x19",
+        ),
         ("{}", b"\xa0"),
         ("{1: 2, 3: 4}", b"\xa2\x01\x02\x03\x04"),
     ];
     for (name, bytes) in cases {
-        let item = decode(rt.alloc(), bytes).ok().ok_or("an example of the standard")?;
+        let item = decode(rt.alloc(), bytes)
+            .ok()
+            .ok_or("an example of the standard")?;
         let written = encode(rt.alloc(), &item).ok().ok_or("memory")?;
         assert!(rt; written.as_slice() == bytes, "at {name}");
     }
@@ -117,29 +209,105 @@ fn refusals(rt: HostRuntime) {
         ("no byte", b"", CborFault::Truncated(0)),
         ("a second item", b"\x00\x00", CborFault::Trailing(1)),
         ("code 24, no argument", b"\x18", CborFault::Truncated(1)),
-        ("code 24, an argument below 24", b"\x18\x17", CborFault::NotShortest(0)),
-        ("code 25, a byte missing", b"\x19\x01", CborFault::Truncated(2)),
-        ("code 25, cut, not the shortest", b"\x19\x00", CborFault::Truncated(2)),
-        ("code 25, below 2^8", b"\x19\x00\xff", CborFault::NotShortest(0)),
-        ("code 26, below 2^16", b"\x1a\x00\x00\xff\xff", CborFault::NotShortest(0)),
-        ("code 27, below 2^32", b"\x1b\x00\x00\x00\x00\xff\xff\xff\xff", CborFault::NotShortest(0)),
-        ("code 27, a byte missing", b"\x1b\x00\x00\x00\x01\x00\x00\x00", CborFault::Truncated(8)),
+        (
+            "code 24, an argument below 24",
+            b"\x18\x17",
+            CborFault::NotShortest(0),
+        ),
+        (
+            "code 25, a byte missing",
+            b"\x19\x01",
+            CborFault::Truncated(2),
+        ),
+        (
+            "code 25, cut, not the shortest",
+            b"\x19\x00",
+            CborFault::Truncated(2),
+        ),
+        (
+            "code 25, below 2^8",
+            b"\x19\x00\xff",
+            CborFault::NotShortest(0),
+        ),
+        (
+            "code 26, below 2^16",
+            b"\x1a\x00\x00\xff\xff",
+            CborFault::NotShortest(0),
+        ),
+        (
+            "code 27, below 2^32",
+            b"\x1b\x00\x00\x00\x00\xff\xff\xff\xff",
+            CborFault::NotShortest(0),
+        ),
+        (
+            "code 27, a byte missing",
+            b"\x1b\x00\x00\x00\x01\x00\x00\x00",
+            CborFault::Truncated(8),
+        ),
         ("code 28", b"\x1c", CborFault::Forbidden(0)),
         ("code 31", b"\x1f\x00", CborFault::Forbidden(0)),
         ("a tag", b"\xc0\x00", CborFault::Forbidden(0)),
-        ("a length that is not the shortest", b"\x81\x58\x17", CborFault::NotShortest(1)),
-        ("a text that is not UTF-8", b"\x81\x62\xc3\x28", CborFault::Forbidden(1)),
+        (
+            "a length that is not the shortest",
+            b"\x81\x58\x17",
+            CborFault::NotShortest(1),
+        ),
+        (
+            "a text that is not UTF-8",
+            b"\x81\x62\xc3\x28",
+            CborFault::Forbidden(1),
+        ),
         ("a text that is cut", b"\x62\xff", CborFault::Truncated(2)),
-        ("a key that is a byte string", b"\xa1\x40\x00", CborFault::Forbidden(1)),
-        ("five lists deep", b"\x81\x81\x81\x81\x80", CborFault::Forbidden(4)),
-        ("a map five deep", b"\xa1\x00\x81\x81\x81\xa0", CborFault::Forbidden(5)),
-        ("a key twice", b"\xa2\x00\x40\x00\x40", CborFault::RepeatedKey(3)),
-        ("a key twice, its value missing", b"\xa2\x00\x40\x00", CborFault::RepeatedKey(3)),
-        ("a key twice, not the shortest", b"\xa2\x00\x40\x18\x00\x40", CborFault::NotShortest(3)),
-        ("forbidden before the end", b"\x82\x20", CborFault::Forbidden(1)),
-        ("2^63 items", b"\x9b\x80\x00\x00\x00\x00\x00\x00\x00\x00", CborFault::Truncated(10)),
-        ("2^64 - 1 bytes", b"\x5b\xff\xff\xff\xff\xff\xff\xff\xff\x00", CborFault::Truncated(10)),
-        ("2^63 pairs", b"\xbb\x80\x00\x00\x00\x00\x00\x00\x00\x00", CborFault::Truncated(10)),
+        (
+            "a key that is a byte string",
+            b"\xa1\x40\x00",
+            CborFault::Forbidden(1),
+        ),
+        (
+            "five lists deep",
+            b"\x81\x81\x81\x81\x80",
+            CborFault::Forbidden(4),
+        ),
+        (
+            "a map five deep",
+            b"\xa1\x00\x81\x81\x81\xa0",
+            CborFault::Forbidden(5),
+        ),
+        (
+            "a key twice",
+            b"\xa2\x00\x40\x00\x40",
+            CborFault::RepeatedKey(3),
+        ),
+        (
+            "a key twice, its value missing",
+            b"\xa2\x00\x40\x00",
+            CborFault::RepeatedKey(3),
+        ),
+        (
+            "a key twice, not the shortest",
+            b"\xa2\x00\x40\x18\x00\x40",
+            CborFault::NotShortest(3),
+        ),
+        (
+            "forbidden before the end",
+            b"\x82\x20",
+            CborFault::Forbidden(1),
+        ),
+        (
+            "2^63 items",
+            b"\x9b\x80\x00\x00\x00\x00\x00\x00\x00\x00",
+            CborFault::Truncated(10),
+        ),
+        (
+            "2^64 - 1 bytes",
+            b"\x5b\xff\xff\xff\xff\xff\xff\xff\xff\x00",
+            CborFault::Truncated(10),
+        ),
+        (
+            "2^63 pairs",
+            b"\xbb\x80\x00\x00\x00\x00\x00\x00\x00\x00",
+            CborFault::Truncated(10),
+        ),
         ("a value missing", b"\xa1\x00", CborFault::Truncated(2)),
     ];
     for (name, bytes, want) in cases {
@@ -179,9 +347,21 @@ fn items_are_counted(rt: HostRuntime) -> Result<(), Fail> {
     let map = decode(rt.alloc(), map_of(&rt, 49_999)?.as_slice());
     assert!(rt; matches!(&map, Ok(Item::Map(pairs)) if pairs.len() == 49_999));
     let cases: [(&str, Vec<u8>, CborFault); 4] = [
-        ("100,000 items", list_of(&rt, 100_000, 100_000)?, CborFault::TooMany),
-        ("100,000 items, 99,999 there", list_of(&rt, 100_000, 99_999)?, CborFault::Truncated(100_004)),
-        ("99,999 items, 99,998 there", list_of(&rt, 99_999, 99_998)?, CborFault::Truncated(100_003)),
+        (
+            "100,000 items",
+            list_of(&rt, 100_000, 100_000)?,
+            CborFault::TooMany,
+        ),
+        (
+            "100,000 items, 99,999 there",
+            list_of(&rt, 100_000, 99_999)?,
+            CborFault::Truncated(100_004),
+        ),
+        (
+            "99,999 items, 99,998 there",
+            list_of(&rt, 99_999, 99_998)?,
+            CborFault::Truncated(100_003),
+        ),
         ("50,000 pairs", map_of(&rt, 50_000)?, CborFault::TooMany),
     ];
     for (name, bytes, want) in cases {
@@ -202,7 +382,11 @@ fn heads(rt: HostRuntime) {
         (0, 256, b"\x19\x01\x00"),
         (0, 1000, b"\x19\x03\xe8"),
         (0, 1_000_000, b"\x1a\x00\x0f\x42\x40"),
-        (0, 1_000_000_000_000, b"\x1b\x00\x00\x00\xe8\xd4\xa5\x10\x00"),
+        (
+            0,
+            1_000_000_000_000,
+            b"\x1b\x00\x00\x00\xe8\xd4\xa5\x10\x00",
+        ),
         (0, u64::MAX, b"\x1b\xff\xff\xff\xff\xff\xff\xff\xff"),
         (2, 64, b"\x58\x40"),
         (6, 0x5d00, b"\xd9\x5d\x00"),
@@ -215,7 +399,10 @@ fn heads(rt: HostRuntime) {
         }
         if major == 0 {
             let item = decode(rt.alloc(), want);
-            assert!(rt; matches!(item, Ok(Item::Whole(read)) if read == value), "at {value}");
+            assert!(rt;
+                matches!(item, Ok(Item::Whole(read)) if read == value),
+                "at {value}"
+            );
         }
     }
 }

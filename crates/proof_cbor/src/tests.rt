@@ -343,7 +343,10 @@ const RISING: &str =
 
 /// Whether the bytes count on from the first.
 fn count_on(bytes: &[u8], first: u8) -> bool {
-    bytes.iter().enumerate().all(|(i, byte)| *byte == first.wrapping_add(i as u8))
+    bytes
+        .iter()
+        .enumerate()
+        .all(|(i, byte)| *byte == first.wrapping_add(i as u8))
 }
 
 /// Whether all bytes are the first, but the last one, which is one more.
@@ -357,7 +360,9 @@ fn ends_one_up(bytes: &[u8], first: u8) -> bool {
 #[test]
 fn parts_of_a_base_value(rt: HostRuntime) {
     let base = decode_base(rt.alloc(), BASE_FULL).expect(&rt, "a value");
-    assert!(rt; count_on(&base.signature, 0) && count_on(&base.key, 100) && count_on(&base.secret, 200));
+    assert!(rt;
+        count_on(&base.signature, 0) && count_on(&base.key, 100) && count_on(&base.secret, 200)
+    );
     assert!(rt; base.signatures.len() == 2 && base.pointers.len() == 2);
     for (signature, first) in base.signatures.as_slice().iter().zip([0x22, 0x44]) {
         assert!(rt; ends_one_up(signature, first), "at {first}");
@@ -384,8 +389,16 @@ fn parts_of_a_derived_value(rt: HostRuntime) {
         for (signature, first) in derived.signatures.as_slice().iter().zip([0x22, 0x44]) {
             assert!(rt; ends_one_up(signature, first), "at {first}");
         }
-        for (label, (number, first)) in derived.labels.as_slice().iter().zip([(0, 0x11), (24, 0x33), (1000, 0x55)]) {
-            assert!(rt; label.number == number && ends_one_up(&label.digest, first), "at {number}");
+        for (label, (number, first)) in derived
+            .labels
+            .as_slice()
+            .iter()
+            .zip([(0, 0x11), (24, 0x33), (1000, 0x55)])
+        {
+            assert!(rt;
+                label.number == number && ends_one_up(&label.digest, first),
+                "at {number}"
+            );
         }
         assert!(rt; derived.indexes.as_slice() == [1, 23, 500].as_slice());
         let text = encode_derived(rt.alloc(), &derived).expect(&rt, "a value");
