@@ -103,6 +103,7 @@ of-Text bytes h =
     let p = and_parts (is_utf8 bytes) (ltb (length bytes) (2 ^ 64)) (sym (ap fits (sym (v.rolls-Text bytes)) ∙ fold-roll-Item Bool fits_step (Item-F.Text bytes)) ∙ h) in
     (IsUtf8-from_is_utf8 bytes p.0, ltb-true (length bytes) (2 ^ 64) p.1)
 
+-- a list that fits has a count of 64 bits, and items that fit
 pub of-List : (is : List Item) → fits (v.List is) ≡ true → (length is < 2 ^ 64) × (list_all fits is ≡ true)
 of-List is h =
     let e : fits (v.List is) ≡ (ltb (length is) (2 ^ 64) && list_all fits is) = ap fits (sym (v.rolls-List is)) ∙ fold-roll-Item Bool fits_step (Item-F.List is) ∙ rw (length-map is fits, list_all-map (λ (b : Bool). b) fits is) refl in

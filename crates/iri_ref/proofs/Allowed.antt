@@ -51,9 +51,11 @@ avoids_none p i (b ∷ bs) f = rw f.0 (avoids_none p (i + 1) bs f.1)
 abbrev pub Clean : List ℕ → Type 0
 Clean bs = Avoids is_forbidden bs
 
+-- a text in which no forbidden character is found is clean
 pub clean_of : (bs : List ℕ) → first_forbidden bs ≡ None → Clean bs
 clean_of bs e = none_avoids is_forbidden 0 bs (sym (position_from-zero is_forbidden bs) ∙ e)
 
+-- in a clean text no forbidden character is found
 pub allowed_of : (bs : List ℕ) → Clean bs → first_forbidden bs ≡ None
 allowed_of bs f = position_from-zero is_forbidden bs ∙ avoids_none is_forbidden 0 bs f
 

@@ -33,6 +33,7 @@ before-from_step : (c b : ℕ) (bs : List ℕ) → before c bs ++ from c bs ≡ 
 before-from_step c b bs ih true e = rw e refl
 before-from_step c b bs ih false e = rw e (ap (λ t. b ∷ t) ih)
 
+-- what comes before a mark, and what begins with it, are the text
 pub before-from : (c : ℕ) (bs : List ℕ) → before c bs ++ from c bs ≡ bs
 before-from c [] = refl
 before-from c (b ∷ bs) = before-from_step c b bs (before-from c bs) (eqb b c) refl
@@ -42,6 +43,7 @@ before-after_step : (c b : ℕ) (bs : List ℕ) → before c bs ++ with_mark (c 
 before-after_step c b bs ih true e = rw e (ap (λ x. x ∷ bs) (sym (eqb-true b c e)))
 before-after_step c b bs ih false e = rw e (ap (λ t. b ∷ t) ih)
 
+-- what comes before a mark, the mark, and what comes after it, are the text
 pub before-after : (c : ℕ) (bs : List ℕ) → before c bs ++ with_mark (c ∷ []) (after c bs) ≡ bs
 before-after c [] = refl
 before-after c (b ∷ bs) = before-after_step c b bs (before-after c bs) (eqb b c) refl

@@ -62,5 +62,6 @@ cuts_components c =
     let e5 = field_cut _ (s ++ a ++ c.path ++ q) (35 ∷ []) [] c.fragment _ 1 (whole ∙ four s a c.path q f) lsapq refl in
     same_fields _ _ _ _ _ c e1 e2 e3 e4 e5
 
+-- the spans of a text cut its components out
 pub spans_cut : (text : List ℕ) → components_at text (spans (components text)) ≡ components text
 spans_cut text = ap (λ t. components_at t (spans (components text))) (sym (recompose-components text)) ∙ cuts_components (components text)

@@ -50,6 +50,7 @@ with_end-last : (kept : List (List ℕ)) (s : List ℕ) (t : Bool) → (is_dot s
 with_end-last kept s true e = rw e refl
 with_end-last kept s false e = rw e refl
 
+-- the segments that are kept at the end of the path
 pub kept_end : (kept now : List (List ℕ)) (rest : List ℕ) (t : Bool) → ((i : ℕ) → i < length rest → get_or rest i 0 ≢ 47) → now ≡ enter kept rest → t ≡ (is_dot rest || is_dot_dot rest) → cond t (now ++ [] ∷ []) now ≡ fold enter kept (with_end (segments rest))
 kept_end kept now rest t h n e = rw (segments_none rest h, n) (sym (with_end-last kept rest t (sym e)))
 
@@ -64,6 +65,7 @@ later_texts : (xs : List (Bor (List ℕ))) → flat_map (λ (y : Bor (List ℕ))
 later_texts [] = refl
 later_texts (x ∷ xs) = ap (λ t. 47 ∷ x.now ++ t) (later_texts xs)
 
+-- the pieces joined with slashes are the path of their texts
 pub path_of-texts : (xs : List (Bor (List ℕ))) → join_by (λ (y : Bor (List ℕ)). y.now) (47 ∷ []) xs ≡ path_of (texts_of xs)
 path_of-texts [] = refl
 path_of-texts (x ∷ xs) = ap (λ t. x.now ++ t) (later_texts xs)
@@ -85,10 +87,12 @@ later_text rest s later u e =
     let low : get_or rest (length s) 0 < 128 = omega arith in
     rw same at (IsUtf8-drop rest (length s + 1) u (IsCharBoundary-after_ascii rest (length s) u inside low))
 
+-- the end of a path whose last segment is a dot or two
 pub end_dot : (kept : List (List ℕ)) (items last : List (Bor (List ℕ))) (x : Bor (List ℕ)) (rest : List ℕ) → ((i : ℕ) → i < length rest → get_or rest i 0 ≢ 47) → texts_of items ≡ enter kept rest → true ≡ (is_dot rest || is_dot_dot rest) → x.now ≡ [] → last ≡ items ++ x ∷ [] → texts_of last ≡ fold enter kept (with_end (segments rest))
 end_dot kept items last x rest h n t e l =
     let pushed : texts_of last ≡ texts_of items ++ [] ∷ [] = ap texts_of l ∙ (map-append (λ (s : Bor (List ℕ)). s.now) items (x ∷ []) ∙ ap (λ y. texts_of items ++ y ∷ []) e) in
     pushed ∙ kept_end kept (texts_of items) rest true h n t
 
+-- the end of a path with another last segment
 pub end_plain : (kept : List (List ℕ)) (items : List (Bor (List ℕ))) (rest : List ℕ) → ((i : ℕ) → i < length rest → get_or rest i 0 ≢ 47) → texts_of items ≡ enter kept rest → false ≡ (is_dot rest || is_dot_dot rest) → texts_of items ≡ fold enter kept (with_end (segments rest))
 end_plain kept items rest h n t = kept_end kept (texts_of items) rest false h n t
