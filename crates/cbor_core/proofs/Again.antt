@@ -13,7 +13,7 @@ use Rattle.cbor_core.specs.Grammar.{head_of, IsHead, EncodesFlat, EncodesEach, E
 use Rattle.cbor_core.specs.Internal.Reading.{Reader, argument_at, string_at, whole_at, blob_at, text_string_at, flat_at, items_at, list_at, key_at, entries_at, map_at, item_at}
 use Rattle.cbor_core.proofs.Arguments.{argument_again, head_first}
 use Rattle.cbor_core.proofs.Keys.{Fresh, fresh_after, fresh_at_first}
-use Rattle.cbor_core.proofs.LoopSteps.{item_as_list, item_as_map, item_as_flat}
+use Rattle.cbor_core.proofs.ReadingLoops.{item_as_list, item_as_map, item_as_flat}
 
 -- a string spelled at the front of the bytes reads as its content
 pub string_again : (total major : ℕ) (content rest : List ℕ) → length content < 2 ^ 64 → string_at total ((head_of major (length content) ++ content) ++ rest) ≡ Ok (content, rest)

@@ -1,5 +1,5 @@
 pub mod Outcomes
-pub mod LoopSteps
+pub mod ReadingLoops
 pub mod Arguments
 pub mod Keys
 pub mod Found

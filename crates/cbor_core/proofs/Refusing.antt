@@ -18,7 +18,7 @@ use Rattle.cbor_core.proofs.Outcomes.{same_err, took, passed, went_on, stopped}
 use Rattle.cbor_core.proofs.Arguments.{IsBytes-drop, Head, argument_takes, argument_again, head_first}
 use Rattle.cbor_core.proofs.Again.{Again, string_again}
 use Rattle.cbor_core.proofs.Found.{Takes, string_takes}
-use Rattle.cbor_core.proofs.LoopSteps.{item_as_list, item_as_map, item_as_flat}
+use Rattle.cbor_core.proofs.ReadingLoops.{item_as_list, item_as_map, item_as_flat}
 
 -- the rest ends where the input of so many bytes does
 abbrev pub EndsAt : ℕ → Rest → Type 0

@@ -15,7 +15,7 @@ use Rattle.cbor_core.proofs.Outcomes.{same_err, took, stopped, passed_true}
 use Rattle.cbor_core.proofs.Arguments.{head_first}
 use Rattle.cbor_core.proofs.Again.{Again, item_again}
 use Rattle.cbor_core.proofs.Found.{Takes, item_takes}
-use Rattle.cbor_core.proofs.LoopSteps.{item_as_flat, item_as_list, item_as_map}
+use Rattle.cbor_core.proofs.ReadingLoops.{item_as_flat, item_as_list, item_as_map}
 use Rattle.cbor_core.proofs.Refusing.{EndsAt, RefusedSo, StopsSo, boolean, rest_at, start_is, Kinds, kinds, head_read, head_again, argument_stops, item_head_refused, item_at_end, item_at_full, as_whole, as_blob, as_text, as_list, as_map, as_none, flat_is_blob, flat_is_text, string_refused, string_stops, blob_refused, blob_stops, text_refused_cut, text_refused_whole, text_stops, each_refused, each_stops, ends_behind}
 use Rattle.cbor_core.proofs.RefusingMaps.{entries_refuse, entries_refusal}
 

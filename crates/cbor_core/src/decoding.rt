@@ -26,7 +26,7 @@ const ITEMS: u32 = 100_000;
 /// The item that the bytes begin with, where lists and maps may nest `levels` deep and `left` items
 /// may begin; then how many may begin after it, and what follows it.
 #[cycle(item)]
-#[tactic(auto, using(crate::proofs::LoopSteps::item_steps), unfolding(crate::specs::Internal::Reading::flat_at))]
+#[tactic(auto, using(crate::proofs::ReadingLoops::item_steps), unfolding(crate::specs::Internal::Reading::flat_at))]
 fn read_item(
     alloc: Global,
     total: usize,
@@ -72,7 +72,7 @@ fn read_list(
 }
 
 #[cycle(item)]
-#[tactic(auto, using(crate::proofs::LoopSteps::items_steps))]
+#[tactic(auto, using(crate::proofs::ReadingLoops::items_steps))]
 fn read_items(
     alloc: Global,
     total: usize,
@@ -114,7 +114,7 @@ fn read_map(
 }
 
 #[cycle(item)]
-#[tactic(auto, using(crate::proofs::LoopSteps::entries_steps))]
+#[tactic(auto, using(crate::proofs::ReadingLoops::entries_steps))]
 fn read_entries(
     alloc: Global,
     total: usize,
@@ -149,7 +149,7 @@ fn read_entries(
 }
 
 /// The entries of a map as its pairs.
-#[tactic(auto, using(crate::proofs::LoopSteps::pairs_steps))]
+#[tactic(auto, using(crate::proofs::ReadingLoops::pairs_steps))]
 fn pairs(alloc: Global, entries: BTreeMap<u64, Item>) -> Result<Items<Pair>, CborFault>
     ensures { Gives is_memory (λ x. x) result (Ok (pairs_of entries.entries)) }
 {

@@ -131,7 +131,7 @@ pub fn read_blob(
     Ok((Item::Blob(content), left, rest))
 }
 
-#[tactic(auto, using(crate::proofs::LoopSteps::text_steps), unfolding(crate::specs::Internal::Reading::text_string_at))]
+#[tactic(auto, using(crate::proofs::ReadingLoops::text_steps), unfolding(crate::specs::Internal::Reading::text_string_at))]
 pub fn read_text(
     alloc: Global,
     total: usize,

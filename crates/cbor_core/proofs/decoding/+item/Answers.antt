@@ -1,5 +1,5 @@
 use Rattle.std.proofs.Common.{sym, ◌∙◌}
-use Rattle.cbor_core.proofs.LoopSteps.{entries_more, entries_repeated}
+use Rattle.cbor_core.proofs.ReadingLoops.{entries_more, entries_repeated}
 use Rattle.cbor_core.specs.Internal.Reading.{item_at}
 use Rattle.cbor_core.proofs.decoding.+item.Goals as goal
 
