@@ -29,6 +29,7 @@ heads : (n : ℕ) → n ≡ 64 → (head_of 4 5 ≡ 0x85 ∷ []) × (head_of 2 n
 unfolding head_of
 heads n e = (refl, rw e refl)
 
+-- the bytes of a base value are the six fixed ones, those of its signature and those behind it
 pub split_bytes : (value : BaseValue) → length value.signature ≡ 64 → base_proof_bytes value ≡ front ++ (value.signature ++ behind_signature value)
 unfolding base_item
 split_bytes value long =
@@ -42,6 +43,7 @@ long_enough value long =
     let n = length-append value.signature (behind_signature value) in
     omega (arith, s, n)
 
+-- a draft with another signature put in is the bytes of the value with that signature
 pub put_bytes : (value : BaseValue) (old new signature : List ℕ) → IsDraft value old → length signature ≡ 64 → new ≡ take 6 old ++ (signature ++ drop 70 old) → new ≡ base_proof_bytes (with_signature value signature)
 put_bytes value old new signature draft long is =
     let s : old ≡ front ++ (value.signature ++ behind_signature value) = draft.2 ∙ split_bytes value draft.0.0.signature in
@@ -52,12 +54,15 @@ put_bytes value old new signature draft long is =
 length_encoded : (bytes : List ℕ) → length (encode_of url_safe_no_pad bytes) ≡ encoded_size_of url_safe_no_pad (length bytes)
 length_encoded bytes = rw (append-nil (encode_symbols url_safe_no_pad.encode_table bytes)) (length-encode_symbols url_safe_no_pad.encode_table bytes)
 
+-- the text of bytes is one longer than their base64url
 pub length_text : (bytes text : List ℕ) → text ≡ multibase_text bytes → length text ≡ 1 + encoded_size_of url_safe_no_pad (length bytes)
 length_text bytes text is = ap length is ∙ omega (arith, length_encoded bytes)
 
+-- a base value that may be written has at least 70 bytes
 pub long_bytes : (value : BaseValue) (bytes : List ℕ) → CanWriteBase value → bytes ≡ base_proof_bytes value → 70 ≤ length bytes
 long_bytes value bytes can is = subst (λ (z : List ℕ). 70 ≤ length z) (sym is) (long_enough value can.0.signature)
 
+-- the bytes of a base value that may be written, of few enough items, are a draft of it
 pub draft_is : (value : BaseValue) (bytes : List ℕ) → CanWriteBase value → count_of (base_item value) ≤ 100000 → bytes ≡ base_proof_bytes value → IsDraft value bytes
 draft_is value bytes can few is = (can, few, is)
 
@@ -65,6 +70,7 @@ ascii_text : (bytes : List ℕ) → IsAscii (multibase_text bytes)
 ascii_text bytes zero = omega arith
 ascii_text bytes (suc i) = IsAscii-encode_of url_safe_no_pad bytes i
 
+-- the multibase text of any bytes is UTF-8
 pub utf8_text : (bytes text : List ℕ) → text ≡ multibase_text bytes → IsUtf8 text
 utf8_text bytes text is = subst IsUtf8 (sym is) (IsUtf8-from_ascii (multibase_text bytes) (ascii_text bytes))
 
@@ -72,11 +78,13 @@ utf8_text bytes text is = subst IsUtf8 (sym is) (IsUtf8-from_ascii (multibase_te
 pub buffer_is : (len : ℕ) (new items : List ℕ) → length new ≡ len → take len (new ++ drop (length new) items) ≡ new
 buffer_is len new items long = take_at new (drop (length new) items) len long
 
+-- a buffer of the size of a multibase text, written over with that text, is UTF-8
 pub buffer_utf8 : (len : ℕ) (bytes new items : List ℕ) → new ≡ multibase_text bytes → length items ≡ 1 + encoded_size_of url_safe_no_pad (length bytes) → length items ≡ len → IsUtf8 (take len (new ++ drop (length new) items))
 buffer_utf8 len bytes new items is size same =
     let long : length new ≡ len = length_text bytes new is ∙ sym size ∙ same in
     subst IsUtf8 (sym (buffer_is len new items long)) (utf8_text bytes new is)
 
+-- `u` put at the front of a buffer, and base64url behind it, make the text of the bytes
 pub text_written : (bytes text out : List ℕ) → length text ≡ 1 + encoded_size_of url_safe_no_pad (length bytes)
     → out ≡ encode_of url_safe_no_pad bytes ++ drop (encoded_size_of url_safe_no_pad (length bytes)) (take (length (slice_set text 0 117) - 1) (drop 1 (slice_set text 0 117)))
     → put_mid 1 (length (slice_set text 0 117) - 1) (slice_set text 0 117) out ≡ multibase_text bytes
@@ -92,9 +100,11 @@ text_written bytes (t ∷ ts) out long is =
     let two : put_mid 1 (length ts) (117 ∷ ts) out ≡ 117 ∷ (out ++ []) = ap (λ (z : List ℕ). 117 ∷ (out ++ z)) end in
     one ∙ two ∙ ap (λ (z : List ℕ). 117 ∷ z) (append-nil out ∙ all)
 
+-- the text of a draft with another signature put in is that of the value with that signature
 pub finished : (value : BaseValue) (old new signature text : List ℕ) → IsDraft value old → length signature ≡ 64 → new ≡ take 6 old ++ (signature ++ drop 70 old) → text ≡ multibase_text new → text ≡ multibase_text (base_proof_bytes (with_signature value signature))
 finished value old new signature text draft long is t = t ∙ ap multibase_text (put_bytes value old new signature draft long is)
 
+-- 64 bytes put in place of those from the seventh on leave the number of bytes as it was
 pub same_size : (old new signature : List ℕ) → 70 ≤ length old → length signature ≡ 64 → new ≡ take 6 old ++ (signature ++ drop 70 old) → length new ≡ length old
 same_size old new signature enough long is = ap length is ∙ simp (length-append, length-take, length-drop) (omega arith)
 

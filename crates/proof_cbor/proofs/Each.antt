@@ -27,6 +27,7 @@ each_more kind xs i x y done whole lt is e so_far =
     let one : option_map (λ rest. done ++ rest) (each_is kind (drop i xs)) ≡ option_map (λ rest. (done ++ y ∷ []) ++ rest) (each_is kind (drop (i + 1) xs)) = rw (from xs i x lt is, e) (joined done y (each_is kind (drop (i + 1) xs))) in
     sym one ∙ so_far
 
+-- where the next item is not of the kind, the whole is not of it
 pub each_stops : {X Y : Type 0} (kind : X → Option Y) (xs : List X) (i : ℕ) (x : X) (done : List Y) (whole : Option (List Y)) → i < length xs → x ≡ get_or xs i x → kind x ≡ None
     → option_map (λ rest. done ++ rest) (each_is kind (drop i xs)) ≡ whole → whole ≡ None
 unfolding each_is
@@ -34,6 +35,7 @@ each_stops kind xs i x done whole lt is e so_far =
     let one : option_map (λ rest. done ++ rest) (each_is kind (drop i xs)) ≡ None = rw (from xs i x lt is, e) refl in
     sym so_far ∙ one
 
+-- past the last item, the whole is what was gathered
 pub each_end : {X Y : Type 0} (kind : X → Option Y) (xs : List X) (i : ℕ) (done : List Y) (whole : Option (List Y)) → length xs ≤ i
     → option_map (λ rest. done ++ rest) (each_is kind (drop i xs)) ≡ whole → whole ≡ Some done
 unfolding each_is
@@ -48,18 +50,21 @@ still : {Y : Type 0} (y : Y) (o : Option (List Y)) → is_some (option_map (λ y
 still y None = refl
 still y (Some ys) = refl
 
+-- where the next item is of the kind, those behind it decide whether all are
 pub all_more : {X Y : Type 0} (kind : X → Option Y) (xs : List X) (i : ℕ) (x : X) (y : Y) (whole : Bool) → i < length xs → x ≡ get_or xs i x → kind x ≡ Some y → is_some (each_is kind (drop i xs)) ≡ whole → is_some (each_is kind (drop (i + 1) xs)) ≡ whole
 unfolding each_is
 all_more kind xs i x y whole lt is e so_far =
     let one : is_some (each_is kind (drop i xs)) ≡ is_some (each_is kind (drop (i + 1) xs)) = rw (from xs i x lt is, e) (still y (each_is kind (drop (i + 1) xs))) in
     sym one ∙ so_far
 
+-- where the next item is not of the kind, not all are
 pub all_stops : {X Y : Type 0} (kind : X → Option Y) (xs : List X) (i : ℕ) (x : X) (whole : Bool) → i < length xs → x ≡ get_or xs i x → kind x ≡ None → is_some (each_is kind (drop i xs)) ≡ whole → false ≡ whole
 unfolding each_is
 all_stops kind xs i x whole lt is e so_far =
     let one : is_some (each_is kind (drop i xs)) ≡ false = rw (from xs i x lt is, e) refl in
     sym one ∙ so_far
 
+-- past the last item, all are of the kind
 pub all_end : {X Y : Type 0} (kind : X → Option Y) (xs : List X) (i : ℕ) (whole : Bool) → length xs ≤ i → is_some (each_is kind (drop i xs)) ≡ whole → true ≡ whole
 unfolding each_is
 all_end kind xs i whole le so_far =
@@ -138,6 +143,7 @@ module _ {X Y : Type 0} (kind : X → Option Y) (size : Y → ℕ) (at : Part) (
       let k = known (each_is kind xs) (sym e ∙ is) in
       rw k.1 (sym (ones_law xs [] k.0 k.1))
 
+-- where not all are found to be of the kind, there is no list of what they are
 pub each_unknown : {X Y : Type 0} (kind : X → Option Y) (xs : List X) (b : Bool) → b ≡ is_some (each_is kind xs) → b ≡ false → each_is kind xs ≡ None
 each_unknown kind xs b is e = unknown (each_is kind xs) (sym e ∙ is)
 

@@ -23,12 +23,15 @@ use Rattle.proof_cbor.proofs.Spelled.{base_read, derived_read}
 use Rattle.proof_cbor.specs.declared.value.BaseValue.{BaseValue}
 use Rattle.proof_cbor.specs.declared.value.DerivedValue.{DerivedValue}
 use Rattle.proof_cbor.specs.declared.value.MapEntry.{MapEntry}
-use Rattle.proof_cbor.specs.Values.{all_sized, digests_sized, pair_of, base_item, derived_item, base_proof_bytes, derived_proof_bytes, multibase_text, with_signature, CanWriteBase, CanWriteDerived, SpellsBase, SpellsDerived}
+use Rattle.proof_cbor.specs.Values.{all_sized, digests_sized, pair_of, base_item, derived_item, base_proof_bytes, derived_proof_bytes, multibase_text, with_signature, CanWriteBase, SpellsBase, SpellsDerived}
+use Rattle.proof_cbor.specs.Internal.Writing.{CanWriteDerived}
 use Rattle.base64.specs.GeneralPurpose.{IsBytes}
 
+-- past the last item, what was made is the image of the whole list
 pub making_end : {X Y : Type 0} (f : X → Y) (xs : List X) (i : ℕ) (done : List Y) → length xs ≤ i → done ≡ map f (take i xs) → done ≡ map f xs
 making_end f xs i done le is = is ∙ ap (map f) (take_all i xs le)
 
+-- with the image of the next item behind it, what was made is the image of one item more
 pub making_more : {X Y : Type 0} (f : X → Y) (xs : List X) (i : ℕ) (x : X) (done : List Y) → i < length xs → x ≡ get_or xs i x → done ≡ map f (take i xs) → done ++ f x ∷ [] ≡ map f (take (i + 1) xs)
 making_more f xs i x done lt is so_far =
     let one : take (i + 1) xs ≡ take i xs ++ x ∷ [] = rw add-one (take-suc xs i x lt ∙ ap (λ z. take i xs ++ z ∷ []) (sym is)) in
@@ -39,9 +42,11 @@ pub ruleset making_steps = (making_end, making_more)
 
 -- ---- each so many bytes long
 
+-- where the next byte string has the size too, all up to it have the size
 pub sized_more : (n : ℕ) (cs : List (List ℕ)) (i : ℕ) (c : List ℕ) → i < length cs → c ≡ get_or cs i c → length c ≡ n → all_sized n (take i cs) ≡ true → all_sized n (take (i + 1) cs) ≡ true
 sized_more n cs i c lt is size so_far = list_all_more (λ (x : List ℕ). eqb (length x) n) cs i c lt ∙ rw (so_far, ← is) (eq-eqb (length c) n size)
 
+-- past the last byte string, all of the list have the size
 pub sized_end : (n : ℕ) (cs : List (List ℕ)) (i : ℕ) → length cs ≤ i → all_sized n (take i cs) ≡ true → all_sized n cs ≡ true
 sized_end n cs i le so_far = ap (all_sized n) (sym (take_all i cs le)) ∙ so_far
 
@@ -52,6 +57,7 @@ no_label = record { number = 0; digest = [] }
 abbrev pub pair_at : ℕ → Item → Pair Item
 pair_at key value = record { key = key; value = value }
 
+-- with the pair of the next label behind it, whose digest has 32 bytes, one label more is made
 pub labels_more : (es : List MapEntry) (i : ℕ) (done new : List (Pair Item)) (value : Item) (digest : List ℕ) → i < length es → digest ≡ (get_or es i no_label).digest → value ≡ v.Blob digest → length digest ≡ 32 → new ≡ done ++ pair_at (get_or es i no_label).number value ∷ []
     → (done ≡ map pair_of (take i es)) × (digests_sized (take i es) ≡ true) → (new ≡ map pair_of (take (i + 1) es)) × (digests_sized (take (i + 1) es) ≡ true)
 labels_more es i done new value digest lt same is size pushed so_far =
@@ -63,6 +69,7 @@ labels_more es i done new value digest lt same is size pushed so_far =
     let long : eqb (length e.digest) 32 ≡ true = eq-eqb (length e.digest) 32 (ap length (sym same) ∙ size) in
     (pushed ∙ all ∙ sym two, list_all_more (λ (x : MapEntry). eqb (length x.digest) 32) es i no_label lt ∙ rw (so_far.1, long) refl)
 
+-- past the last label, all digests of the list have 32 bytes
 pub digests_end : (es : List MapEntry) (i : ℕ) → length es ≤ i → digests_sized (take i es) ≡ true → digests_sized es ≡ true
 digests_end es i le so_far = ap digests_sized (sym (take_all i es le)) ∙ so_far
 
@@ -129,10 +136,12 @@ module _ (a b c d e : Item) where
   five_nest : item_nesting a ≤ 1 → item_nesting b ≤ 1 → item_nesting c ≤ 1 → item_nesting d ≤ 1 → item_nesting e ≤ 1 → item_nesting (v.List (a ∷ b ∷ c ∷ d ∷ e ∷ [])) ≤ 4
   five_nest na nb nc nd ne = let n = nesting-List (a ∷ b ∷ c ∷ d ∷ e ∷ []) in omega arith
 
+-- the keys of each map in the item of a base value rise
 pub base_rises : (value : BaseValue) (item : Item) → item ≡ base_item value → keys_rise item ≡ true
 unfolding base_item
 base_rises value item is = ap keys_rise is ∙ five_rise _ _ _ _ _ (rise_blob value.signature) (rise_blob value.key) (rise_blob value.secret) (list_rises v.Blob rise_blob value.signatures) (list_rises v.Text rise_text value.pointers)
 
+-- the item of a base value nests at most 4 deep
 pub base_nests : (value : BaseValue) (item : Item) → item ≡ base_item value → item_nesting item ≤ 4
 unfolding base_item
 base_nests value item is =
@@ -143,10 +152,12 @@ base_nests value item is =
     let n5 = list_nests v.Text nest_text value.pointers in
     subst (λ (i : Item). item_nesting i ≤ 4) (sym is) (five_nest (v.Blob value.signature) (v.Blob value.key) (v.Blob value.secret) (v.List (map v.Blob value.signatures)) (v.List (map v.Text value.pointers)) (omega (arith, n1)) (omega (arith, n2)) (omega (arith, n3)) (omega (arith, n4)) (omega (arith, n5)))
 
+-- the keys of each map in the item of a derived value rise, if the numbers of its labels do
 pub derived_rises : (value : DerivedValue) (item : Item) → rise (map number_of value.labels) ≡ true → item ≡ derived_item value → keys_rise item ≡ true
 unfolding derived_item
 derived_rises value item r is = ap keys_rise is ∙ five_rise _ _ _ _ _ (rise_blob value.signature) (rise_blob value.key) (list_rises v.Blob rise_blob value.signatures) (labels_rise value.labels r) (list_rises v.Whole rise_whole value.indexes)
 
+-- the item of a derived value nests at most 4 deep
 pub derived_nests : (value : DerivedValue) (item : Item) → item ≡ derived_item value → item_nesting item ≤ 4
 unfolding derived_item
 derived_nests value item is =
@@ -167,18 +178,22 @@ base_encodes value can = is_spelled (base_item value) (encoding_of (base_item va
 derived_encodes : (value : DerivedValue) → CanWriteDerived value → rise (map number_of value.labels) ≡ true → Encodes 4 (derived_item value) (count_of (derived_item value)) (encoding_of (derived_item value))
 derived_encodes value can r = is_spelled (derived_item value) (encoding_of (derived_item value)) [] refl refl can.1 (derived_rises value (derived_item value) r refl) (derived_nests value (derived_item value) refl)
 
+-- the multibase text of the bytes of a base value that may be written spells the value
 pub base_is_text : (value : BaseValue) (bytes text : List ℕ) → CanWriteBase value → count_of (base_item value) ≤ 100000 → IsBytes bytes → bytes ≡ base_proof_bytes value → text ≡ multibase_text bytes → SpellsBase value text
 base_is_text value bytes text can le small is t =
     record { sizes = can.0; spelled = (count_of (base_item value), encoding_of (base_item value), le, base_encodes value can, (subst IsBytes is small, t ∙ ap multibase_text is)) }
 
+-- the text of the bytes of a derived value that may be written and whose numbers rise spells it
 pub derived_is_text : (value : DerivedValue) (bytes text : List ℕ) → CanWriteDerived value → rise (map number_of value.labels) ≡ true → rise value.indexes ≡ true → count_of (derived_item value) ≤ 100000 → IsBytes bytes → bytes ≡ derived_proof_bytes value → text ≡ multibase_text bytes → SpellsDerived value text
 derived_is_text value bytes text can l r le small is t =
     record { sizes = can.0; rising = r; spelled = (count_of (derived_item value), encoding_of (derived_item value), le, derived_encodes value can l, (subst IsBytes is small, t ∙ ap multibase_text is)) }
 
+-- where a call answers the multibase text of the bytes of a base value, that spells the value
 pub base_text : (value : BaseValue) (bytes seen : List ℕ) (result : Result (List ℕ) Memory) → CanWriteBase value → count_of (base_item value) ≤ 100000 → IsBytes seen → seen ≡ bytes → bytes ≡ base_proof_bytes value → IfOk result (λ text. text ≡ multibase_text seen) → IfOk result (λ (text : List ℕ). SpellsBase value text)
 base_text value bytes seen (Ok text) can le small same is t = base_is_text value seen text can le small (same ∙ is) t
 base_text value bytes seen (Err e) can le small same is t = tt
 
+-- where a call answers the text of the bytes of a derived value whose numbers rise, that spells it
 pub derived_text : (value : DerivedValue) (bytes seen : List ℕ) (result : Result (List ℕ) Memory) → CanWriteDerived value → rise (map number_of value.labels) ≡ true → rise value.indexes ≡ true → count_of (derived_item value) ≤ 100000 → IsBytes seen → seen ≡ bytes → bytes ≡ derived_proof_bytes value → IfOk result (λ text. text ≡ multibase_text seen) → IfOk result (λ (text : List ℕ). SpellsDerived value text)
 derived_text value bytes seen (Ok text) can l r le small same is t = derived_is_text value seen text can l r le small (same ∙ is) t
 derived_text value bytes seen (Err e) can l r le small same is t = tt
@@ -209,14 +224,17 @@ same_count value signature =
 
 -- ---- what was read may be written
 
+-- a base value that was read has at most 100,000 items
 pub base_count : (text : List ℕ) (result : Result BaseValue ValueFault) → IfOk result (λ (value : BaseValue). SpellsBase value text) → IfOk result (λ (value : BaseValue). count_of (base_item value) ≤ 100000)
 base_count text (Ok value) s = let k = kept 4 (base_item value) s.spelled.0 s.spelled.1 s.spelled.3 in omega (arith, k.counted, s.spelled.2)
 base_count text (Err e) s = tt
 
+-- a derived value that was read has at most 100,000 items
 pub derived_count : (text : List ℕ) (result : Result DerivedValue ValueFault) → IfOk result (λ (value : DerivedValue). SpellsDerived value text) → IfOk result (λ (value : DerivedValue). count_of (derived_item value) ≤ 100000)
 derived_count text (Ok value) s = let k = kept 4 (derived_item value) s.spelled.0 s.spelled.1 s.spelled.3 in omega (arith, k.counted, s.spelled.2)
 derived_count text (Err e) s = tt
 
+-- the indexes of a derived value that was read rise
 pub derived_indexes : (text : List ℕ) (result : Result DerivedValue ValueFault) → IfOk result (λ (value : DerivedValue). SpellsDerived value text) → IfOk result (λ (value : DerivedValue). rise value.indexes ≡ true)
 derived_indexes text (Ok value) s = s.rising
 derived_indexes text (Err e) s = tt
@@ -240,6 +258,7 @@ value_rose : (value : DerivedValue) → keys_rise (derived_item value) ≡ true 
 unfolding derived_item
 value_rose value h = labels_rose value.labels (fourth_rises (v.Blob value.signature) (v.Blob value.key) (v.List (map v.Blob value.signatures)) (v.Map (map pair_of value.labels)) (v.List (map v.Whole value.indexes)) h)
 
+-- the numbers of the labels of a derived value that was read rise
 pub derived_labels : (text : List ℕ) (result : Result DerivedValue ValueFault) → IfOk result (λ (value : DerivedValue). SpellsDerived value text) → IfOk result (λ (value : DerivedValue). rise (map number_of value.labels) ≡ true)
 derived_labels text (Ok value) s = value_rose value (kept 4 (derived_item value) s.spelled.0 s.spelled.1 s.spelled.3).keys
 derived_labels text (Err e) s = tt

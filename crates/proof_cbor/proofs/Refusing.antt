@@ -181,6 +181,7 @@ five_read item five is = ap five_parts is ∙ parts_again five.0 five.1 five.2 f
 
 -- ---- a base value
 
+-- a fault that reading an item as a base value ends with is one that the relation refuses it for
 pub base_stops : (item : Item) (e : ValueFault) → base_of item ≡ Err e → RefusesFive RefusesBaseParts item e
 unfolding base_of
 base_stops item e h = elim (stopped (five_parts item) _ e h) [
@@ -201,6 +202,7 @@ base_stops item e h = elim (stopped (five_parts item) _ e h) [
       )
 ]
 
+-- an item that the relation refuses as a base value is read with that fault
 pub base_refused : (item : Item) (e : ValueFault) → RefusesFive RefusesBaseParts item e → base_of item ≡ Err e
 unfolding base_of
 base_refused item e (inl s) = rw (five_refused item (five_parts item) refl s.0, s.1) refl
@@ -215,6 +217,7 @@ base_refused item e (inr s) =
 
 -- ---- a derived value
 
+-- a fault that reading an item as a derived value ends with is one the relation refuses it for
 pub derived_stops : (item : Item) (e : ValueFault) → derived_of item ≡ Err e → RefusesFive RefusesDerivedParts item e
 unfolding derived_of
 derived_stops item e h = elim (stopped (five_parts item) _ e h) [
@@ -246,6 +249,7 @@ derived_stops item e h = elim (stopped (five_parts item) _ e h) [
     rising_stops : {A : Type 0} (item : Item) (numbers : List ℕ) (e : ValueFault) → wholes_of part.Indexes item ≡ Ok numbers → (x : A) → cond (rise numbers) (Ok x) (Err fault.Indexes) ≡ Err e → AreWholes item × (AreRising item → ⊥) × (e ≡ fault.Indexes)
     rising_stops item numbers e ok x h = rising_by item numbers e x (rise numbers) refl (wholes_found part.Indexes item numbers ok) h
 
+-- an item that the relation refuses as a derived value is read with that fault
 pub derived_refused : (item : Item) (e : ValueFault) → RefusesFive RefusesDerivedParts item e → derived_of item ≡ Err e
 unfolding derived_of
 derived_refused item e (inl s) = rw (five_refused item (five_parts item) refl s.0, s.1) refl

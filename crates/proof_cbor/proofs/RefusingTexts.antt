@@ -121,6 +121,7 @@ derived_seen text (Err e) (inr s) = inl ((s.0, s.1), goes_on (multibase_bytes te
 pub one_base : (text : List ℕ) (r s : Result BaseValue ValueFault) → ReadsBase text r → ReadsBase text s → r ≡ s
 one_base text r s x y = seen_once text (reading_base text) r s (base_seen text r x) (base_seen text s y)
 
+-- two outcomes of one text as a derived value are the same
 pub one_derived : (text : List ℕ) (r s : Result DerivedValue ValueFault) → ReadsDerived text r → ReadsDerived text s → r ≡ s
 one_derived text r s x y = seen_once text (reading_derived text) r s (derived_seen text r x) (derived_seen text s y)
 
@@ -139,10 +140,12 @@ not_memory f.Indexes ne = refl
 pub fails_as : {A B : Type 0} (e : ValueFault) (read : Result A ValueFault) (result : Result B ValueFault) → result ≡ Err e → Fails is_memory e read → result ≢ Err f.Memory → read ≡ Err e
 fails_as e read result is h ne = subst (λ (b : Bool). Unless b (read ≡ Err e)) (not_memory e (λ same. ne (is ∙ (λ i. Err (same i))))) h
 
+-- what a call answers for the item behind the header, but for memory, is what a base text is
 pub base_reads : (text bytes : List ℕ) (item : Item) (result : Result BaseValue ValueFault) → IsText text bytes → item_behind base_header bytes ≡ Ok item → Gives is_memory (λ x. x) result (base_of item) → result ≢ Err f.Memory → ReadsBase text result
 base_reads text bytes item (Ok value) t i g ne = base_spelled text bytes item value t i g
 base_reads text bytes item (Err e) t i g ne = parts_stop base_header refl RefusesBaseParts text bytes item e t i (base_stops item e (fails_as e (base_of item) (Err e) refl g ne))
 
+-- what a call answers for the item behind the header, but for memory, is what a derived text is
 pub derived_reads : (text bytes : List ℕ) (item : Item) (result : Result DerivedValue ValueFault) → IsText text bytes → item_behind derived_header bytes ≡ Ok item → Gives is_memory (λ x. x) result (derived_of item) → result ≢ Err f.Memory → ReadsDerived text result
 derived_reads text bytes item (Ok value) t i g ne = derived_spelled text bytes item value t i g
 derived_reads text bytes item (Err e) t i g ne = parts_stop derived_header refl RefusesDerivedParts text bytes item e t i (derived_stops item e (fails_as e (derived_of item) (Err e) refl g ne))
@@ -151,15 +154,18 @@ derived_reads text bytes item (Err e) t i g ne = parts_stop derived_header refl 
 pub base_exact : (text : List ℕ) (result outcome : Result BaseValue ValueFault) → (result ≢ Err f.Memory → ReadsBase text result) → ReadsBase text outcome → UnlessMemory f.Memory outcome result
 base_exact text result outcome reads s ne = one_base text result outcome (reads ne) s
 
+-- an outcome of a text as a derived value is what a call answers, unless memory ran out
 pub derived_exact : (text : List ℕ) (result outcome : Result DerivedValue ValueFault) → (result ≢ Err f.Memory → ReadsDerived text result) → ReadsDerived text outcome → UnlessMemory f.Memory outcome result
 derived_exact text result outcome reads s ne = one_derived text result outcome (reads ne) s
 
 -- ---- an item as `decode` answers it
 
+-- where `decode` answers an item, the bytes are read as that item
 pub read_ok : (bytes : List ℕ) (result : Result Item CborFault) (item : Item) → (result ≢ Err g.Memory → ReadsAs bytes result) → result ≡ Ok item → item_of (reading bytes) ≡ Ok item
 read_ok bytes (Ok i) item reads is = ap item_of (read_as bytes (Ok i) (reads (λ same. absurd cc))) ∙ ap (λ (x : Item). Ok x) (same_ok i item is)
 read_ok bytes (Err d) item reads is = absurd cc
 
+-- where `decode` answers a fault other than memory, the bytes are read with that fault of CBOR
 pub read_err : (bytes : List ℕ) (result : Result Item CborFault) (e : CborFault) → (result ≢ Err g.Memory → ReadsAs bytes result) → result ≡ Err e → e ≢ g.Memory → item_of (reading bytes) ≡ Err (f.Cbor e)
 read_err bytes result e reads is ne =
     let other : result ≢ Err g.Memory = λ same. ne (same_err e g.Memory (sym is ∙ same)) in
@@ -167,14 +173,18 @@ read_err bytes result e reads is ne =
 
 pub ruleset item_steps = (read_ok, read_err)
 
+-- a fault of the text that is not memory is what the text is as a base value
 pub base_text_reads : (text : List ℕ) (e : ValueFault) (result : Result BaseValue ValueFault) → result ≡ Err e → Fails is_memory e (multibase_bytes text) → result ≢ Err f.Memory → ReadsBase text result
 base_text_reads text e result is h ne = subst (ReadsBase text) (sym is) (text_stops base_header refl RefusesBaseParts text e (fails_as e (multibase_bytes text) result is h ne))
 
+-- a fault of the bytes of a text that is not memory is what the text is as a base value
 pub base_item_reads : (text bytes : List ℕ) (e : ValueFault) (result : Result BaseValue ValueFault) → result ≡ Err e → IsText text bytes → Fails is_memory e (item_behind base_header bytes) → result ≢ Err f.Memory → ReadsBase text result
 base_item_reads text bytes e result is t h ne = subst (ReadsBase text) (sym is) (item_stops base_header refl RefusesBaseParts text bytes e t (fails_as e (item_behind base_header bytes) result is h ne))
 
+-- a fault of the text that is not memory is what the text is as a derived value
 pub derived_text_reads : (text : List ℕ) (e : ValueFault) (result : Result DerivedValue ValueFault) → result ≡ Err e → Fails is_memory e (multibase_bytes text) → result ≢ Err f.Memory → ReadsDerived text result
 derived_text_reads text e result is h ne = subst (ReadsDerived text) (sym is) (text_stops derived_header refl RefusesDerivedParts text e (fails_as e (multibase_bytes text) result is h ne))
 
+-- a fault of the bytes of a text that is not memory is what the text is as a derived value
 pub derived_item_reads : (text bytes : List ℕ) (e : ValueFault) (result : Result DerivedValue ValueFault) → result ≡ Err e → IsText text bytes → Fails is_memory e (item_behind derived_header bytes) → result ≢ Err f.Memory → ReadsDerived text result
 derived_item_reads text bytes e result is t h ne = subst (ReadsDerived text) (sym is) (item_stops derived_header refl RefusesDerivedParts text bytes e t (fails_as e (item_behind derived_header bytes) result is h ne))

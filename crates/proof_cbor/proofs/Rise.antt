@@ -27,16 +27,19 @@ two_rise k j ks lt = rw (lt-ltb k j lt) (by_second k j ks (list_all (ltb j) ks) 
 two_stop : (k j : ℕ) (ks : List ℕ) → j ≤ k → rise (k ∷ j ∷ ks) ≡ false
 two_stop k j ks le = rw (le-ltb k j le) refl
 
+-- where the next number is above the last, those from it on decide whether all rise
 pub rise_more : (xs : List ℕ) (i last : ℕ) (whole : Bool) → i < length xs → last < get_or xs i 0 → rise (last ∷ drop i xs) ≡ whole → rise (get_or xs i 0 ∷ drop (i + 1) xs) ≡ whole
 rise_more xs i last whole lt up so_far =
     let here : drop i xs ≡ get_or xs i 0 ∷ drop (i + 1) xs = rw add-one (drop-cons xs i 0 lt) in
     sym (two_rise last (get_or xs i 0) (drop (i + 1) xs) up) ∙ ap (λ (z : List ℕ). rise (last ∷ z)) (sym here) ∙ so_far
 
+-- where the next number is not above the last, not all rise
 pub rise_stops : (xs : List ℕ) (i last : ℕ) (whole : Bool) → i < length xs → get_or xs i 0 ≤ last → rise (last ∷ drop i xs) ≡ whole → false ≡ whole
 rise_stops xs i last whole lt down so_far =
     let here : drop i xs ≡ get_or xs i 0 ∷ drop (i + 1) xs = rw add-one (drop-cons xs i 0 lt) in
     sym (two_stop last (get_or xs i 0) (drop (i + 1) xs) down) ∙ ap (λ (z : List ℕ). rise (last ∷ z)) (sym here) ∙ so_far
 
+-- past the last number, all rise
 pub rise_end : (xs : List ℕ) (i last : ℕ) (whole : Bool) → length xs ≤ i → rise (last ∷ drop i xs) ≡ whole → true ≡ whole
 rise_end xs i last whole le so_far =
     let none : drop i xs ≡ [] = nil_from_length (drop i xs) (omega (arith, length-drop i xs)) in

@@ -109,11 +109,13 @@ item_ok : (r : Result Item CborFault) (item : Item) → item_of r ≡ Ok item �
 item_ok (Ok i) item e = ap (λ (z : Item). Ok z) (same_ok i item e)
 item_ok (Err d) item e = absurd cc
 
+-- bytes whose first three are the header are the header and what follows
 pub front_back : (header bytes rest : List ℕ) → take 3 bytes ≡ header → drop 3 bytes ≡ rest → bytes ≡ header ++ rest
 front_back header bytes rest f d =
     let same : take 3 bytes ++ drop 3 bytes ≡ header ++ rest = cc in
     sym (take-append-drop 3 bytes) ∙ same
 
+-- an item that is read behind a header is one that the text spells behind it
 pub item_found : (header text bytes : List ℕ) (item : Item) → IsText text bytes → item_behind header bytes ≡ Ok item → SpellsBehind header item text
 unfolding item_behind
 item_found header text bytes item t e =
@@ -125,12 +127,14 @@ item_found header text bytes item t e =
     let r : reading a.0 ≡ Ok item = item_ok (reading a.0) item a.2 in
     (count_of item, a.0, count_by a.0 (Ok item) small r, found_by a.0 (Ok item) small r, (subst IsBytes whole t.0, t.1 ∙ ap (λ (z : List ℕ). multibase_text z) whole))
 
+-- the text of bytes is read as those bytes
 pub bytes_again : (text bytes : List ℕ) → IsText text bytes → multibase_bytes text ≡ Ok bytes
 bytes_again text bytes t =
     let d : decode_of url_safe_no_pad (encode_of url_safe_no_pad bytes) ≡ Ok bytes = decode_of-encode_of url_safe_no_pad bytes refl t.0 in
     let e : multibase_bytes (multibase_text bytes) ≡ Ok bytes = ap base64_result d in
     ap multibase_bytes t.1 ∙ e
 
+-- an encoding within the bounds, behind a header of three bytes, is read as its item
 pub item_again : (header rest : List ℕ) (item : Item) (count : ℕ) → length header ≡ 3 → count ≤ 100000 → Encodes 4 item count rest → item_behind header (header ++ rest) ≡ Ok item
 unfolding item_behind
 item_again header rest item count three le s =
@@ -141,15 +145,18 @@ item_again header rest item count three le s =
 
 -- ---- the whole
 
+-- a text whose item behind the header is read as a base value spells that value
 pub base_spelled : (text bytes : List ℕ) (item : Item) (value : BaseValue) → IsText text bytes → item_behind base_header bytes ≡ Ok item → base_of item ≡ Ok value → SpellsBase value text
 base_spelled text bytes item value t i b =
     let found = base_found item value b in
     record { sizes = found.sizes; spelled = subst (λ (x : Item). SpellsBehind base_header x text) found.is (item_found base_header text bytes item t i) }
 
+-- where a call answers the base value that the item behind the header is, the text spells it
 pub base_result : (text bytes : List ℕ) (item : Item) (result : Result BaseValue ValueFault) → IsText text bytes → item_behind base_header bytes ≡ Ok item → Gives is_memory (λ x. x) result (base_of item) → IfOk result (λ (value : BaseValue). SpellsBase value text)
 base_result text bytes item (Ok value) t i g = base_spelled text bytes item value t i g
 base_result text bytes item (Err e) t i g = tt
 
+-- a text that spells a base value is read as that value
 pub base_read : (text : List ℕ) (value : BaseValue) → SpellsBase value text → reading_base text ≡ Ok value
 unfolding reading_base
 base_read text value s =
@@ -158,18 +165,22 @@ base_read text value s =
     ∙ goes_on (item_behind base_header bytes) _ (base_item value) (item_again base_header s.spelled.1 (base_item value) s.spelled.0 refl s.spelled.2 s.spelled.3)
     ∙ base_again value s.sizes
 
+-- where a text spells a base value, a call that reads the text gives that value
 pub base_only : (text : List ℕ) (result : Result BaseValue ValueFault) (value : BaseValue) → SpellsBase value text → Gives is_memory (λ x. x) result (reading_base text) → Gives is_memory (λ x. x) result (Ok value)
 base_only text result value s g = subst (λ (r : Result BaseValue ValueFault). Gives is_memory (λ x. x) result r) (base_read text value s) g
 
+-- a text whose item behind the header is read as a derived value spells that value
 pub derived_spelled : (text bytes : List ℕ) (item : Item) (value : DerivedValue) → IsText text bytes → item_behind derived_header bytes ≡ Ok item → derived_of item ≡ Ok value → SpellsDerived value text
 derived_spelled text bytes item value t i b =
     let found = derived_found item value b in
     record { sizes = found.sizes; rising = found.rising; spelled = subst (λ (x : Item). SpellsBehind derived_header x text) found.is (item_found derived_header text bytes item t i) }
 
+-- where a call answers the derived value that the item behind the header is, the text spells it
 pub derived_result : (text bytes : List ℕ) (item : Item) (result : Result DerivedValue ValueFault) → IsText text bytes → item_behind derived_header bytes ≡ Ok item → Gives is_memory (λ x. x) result (derived_of item) → IfOk result (λ (value : DerivedValue). SpellsDerived value text)
 derived_result text bytes item (Ok value) t i g = derived_spelled text bytes item value t i g
 derived_result text bytes item (Err e) t i g = tt
 
+-- a text that spells a derived value is read as that value
 pub derived_read : (text : List ℕ) (value : DerivedValue) → SpellsDerived value text → reading_derived text ≡ Ok value
 unfolding reading_derived
 derived_read text value s =
@@ -178,5 +189,6 @@ derived_read text value s =
     ∙ goes_on (item_behind derived_header bytes) _ (derived_item value) (item_again derived_header s.spelled.1 (derived_item value) s.spelled.0 refl s.spelled.2 s.spelled.3)
     ∙ derived_again value s.sizes s.rising
 
+-- where a text spells a derived value, a call that reads the text gives that value
 pub derived_only : (text : List ℕ) (result : Result DerivedValue ValueFault) (value : DerivedValue) → SpellsDerived value text → Gives is_memory (λ x. x) result (reading_derived text) → Gives is_memory (λ x. x) result (Ok value)
 derived_only text result value s g = subst (λ (r : Result DerivedValue ValueFault). Gives is_memory (λ x. x) result r) (derived_read text value s) g

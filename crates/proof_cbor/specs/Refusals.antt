@@ -1,5 +1,6 @@
--- Which text is refused, and as what: the first fault that applies, in the order of `ValueFault`. Of
--- the five parts the first that is refused counts, and of one part its kind comes before its lengths.
+-- Which text is refused, and as what: the first fault that applies, in the order of `ValueFault`.
+-- Of the five parts the first that is refused counts, and of one part its kind comes before its
+-- lengths.
 use Rattle.std.specs.Prelude.{◌≡◌, ◌≢◌, ℕ, ◌≤◌, List, [], ◌∷◌, ◌++◌, length, map, Bool, true, ◌⊎◌, Result, Ok, Err}
 use Rattle.cbor_core.specs.declared.fault.CborFault.{CborFault}
 use Rattle.cbor_core.specs.declared.item.Item.{Item}
@@ -31,7 +32,8 @@ AreBlobs item = (contents : List (List ℕ)) × (item ≡ v.List (map v.Blob con
 
 abbrev pub AreBlobsOf : ℕ → Item → Type 0
 AreBlobsOf n item =
-    (contents : List (List ℕ)) × (item ≡ v.List (map v.Blob contents)) × (all_sized n contents ≡ true)
+    (contents : List (List ℕ)) × (item ≡ v.List (map v.Blob contents))
+    × (all_sized n contents ≡ true)
 
 -- a map from numbers to byte strings, and one to digests of 32 bytes each
 abbrev pub IsLabelMap : Item → Type 0
@@ -39,7 +41,8 @@ IsLabelMap item = (entries : List MapEntry) × (item ≡ v.Map (map pair_of entr
 
 abbrev pub IsDigestMap : Item → Type 0
 IsDigestMap item =
-    (entries : List MapEntry) × (item ≡ v.Map (map pair_of entries)) × (digests_sized entries ≡ true)
+    (entries : List MapEntry) × (item ≡ v.Map (map pair_of entries))
+    × (digests_sized entries ≡ true)
 
 -- a list of texts
 abbrev pub AreTexts : Item → Type 0
@@ -93,7 +96,8 @@ RefusesFive Refuses item fault =
 
 -- ---- the text
 
--- The bytes do not begin with the header, or what follows is no item of CBOR, or its parts are refused.
+-- The bytes do not begin with the header, or what follows is no item of CBOR, or its parts are
+-- refused.
 abbrev pub RefusesBytes : List ℕ → (Five → ValueFault → Type 0) → List ℕ → ValueFault → Type 0
 RefusesBytes header Refuses bytes fault =
     (((rest : List ℕ) → bytes ≢ header ++ rest) × (fault ≡ Header))

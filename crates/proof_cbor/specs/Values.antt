@@ -1,5 +1,5 @@
--- Which text spells a proof value of `ecdsa-sd-2023` (Data Integrity ECDSA Cryptosuites 1.0, 3.5.2 to
--- 3.5.3 and 3.5.7 to 3.5.8).
+-- Which text spells a proof value of `ecdsa-sd-2023` (Data Integrity ECDSA Cryptosuites 1.0, 3.5.2
+-- to 3.5.3 and 3.5.7 to 3.5.8).
 use Rattle.std.specs.Prelude.{◌≡◌, ℕ, ◌≤◌, List, [], ◌∷◌, ◌++◌, length, map, Bool, true, ◌==◌}
 use Rattle.std.specs.List.{list_all}
 use Rattle.base64.specs.Engines.{url_safe_no_pad}
@@ -22,8 +22,8 @@ base_header = 0xd9 ∷ 0x5d ∷ 0x00 ∷ []
 abbrev pub derived_header : List ℕ
 derived_header = 0xd9 ∷ 0x5d ∷ 0x01 ∷ []
 
--- the text of bytes: `u`, and base64url without padding (RFC 4648, section 5; Controlled Identifiers
--- 1.0, 2.4)
+-- the text of bytes: `u`, and base64url without padding (RFC 4648, section 5; Controlled
+-- Identifiers 1.0, 2.4)
 abbrev pub multibase_text : List ℕ → List ℕ
 multibase_text bytes = 117 ∷ encode_of url_safe_no_pad bytes
 
@@ -96,9 +96,6 @@ derived_proof_bytes value = derived_header ++ encoding_of (derived_item value)
 -- the value is one of the types of Rust: its byte strings have their lengths, and all else fits
 abbrev pub CanWriteBase : BaseValue → Type 0
 CanWriteBase value = BaseSizes value × (fits (base_item value) ≡ true)
-
-abbrev pub CanWriteDerived : DerivedValue → Type 0
-CanWriteDerived value = DerivedSizes value × (fits (derived_item value) ≡ true)
 
 -- the base value with another signature
 abbrev pub with_signature : BaseValue → List ℕ → BaseValue

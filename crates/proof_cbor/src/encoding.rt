@@ -5,7 +5,8 @@ ghost use Rattle.base64.specs.GeneralPurpose.{IsBytes};
 ghost use Rattle.cbor_core.specs.Writing.{item_nesting, count_of, keys_rise, encoding_of, fits};
 ghost use Rattle.base_types.specs.Order.{rise};
 ghost use Rattle.proof_cbor.specs.declared.value.MapEntry.{MapEntry};
-ghost use Rattle.proof_cbor.specs.Values.{multibase_text, base_item, derived_item, base_proof_bytes, derived_proof_bytes, CanWriteBase, CanWriteDerived, SpellsBase, SpellsDerived};
+ghost use Rattle.proof_cbor.specs.Values.{multibase_text, base_item, derived_item, base_proof_bytes, derived_proof_bytes, CanWriteBase, SpellsBase, SpellsDerived};
+ghost use Rattle.proof_cbor.specs.Internal.Writing.{CanWriteDerived};
 ghost use Rattle.proof_cbor.specs.Refusals.{ReadsBase, ReadsDerived};
 
 use crate::headers::{BASE_HEADER, DERIVED_HEADER};
