@@ -18,8 +18,14 @@ use Rattle.json_tree.specs.declared.tree.Member.{Member}
 use Rattle.json_tree.specs.declared.place.Step.{Step}
 use Rattle.json_tree.specs.declared.place.Step.TheVariants.{Key, At}
 use Rattle.json_tree.specs.Trees.{is_64_bits, range_step, is_in_range, greatest, levels_step, levels_of, numbered, renumber_step, renumbered, element, new_member, version_step, holds_version}
-use Rattle.json_tree.specs.Prints.{members_data, data_step, data_of, datum, json_items, json_members, json_step, json_of, item_json, member_json}
-use Rattle.json_tree.specs.Places.{first_of, below, is_version_key, misplaced_step, misplaced, first_in_items, first_in_members}
+use Rattle.json_tree.specs.Prints.{members_data, data_step, data_of, json_items, json_members, json_step, json_of}
+use Rattle.json_tree.specs.Internal.Writes.{item_json, member_json}
+use Rattle.json_tree.specs.Places.{first_of, below, is_version_key, misplaced_step, misplaced}
+use Rattle.json_tree.specs.Internal.Misplaced.{first_in_items, first_in_members}
+
+-- a member with its value's JSON value
+abbrev pub datum : Member Tree → Member Data
+datum m = record { key = m.key; value = data_of m.value }
 
 -- images of images are images under both steps
 pub map-map : {X Y Z : Type 0} (f : Y → Z) (g : X → Y) (xs : List X) → map f (map g xs) ≡ map (λ x. f (g x)) xs

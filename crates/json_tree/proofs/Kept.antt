@@ -13,7 +13,8 @@ use Rattle.json_tree.specs.declared.tree.Member.{Member}
 use Rattle.json_tree.specs.declared.place.Step.{Step}
 use Rattle.json_tree.specs.declared.place.Step.TheVariants.{Key, At}
 use Rattle.json_tree.specs.Trees.{each_next, is_before, is_lawful, is_in_range}
-use Rattle.json_tree.specs.Places.{value_of, members_of, items_of, below, or_else, child_in, child_of, look, misplaced, first_in_items, first_in_members, is_version_key}
+use Rattle.json_tree.specs.Places.{value_of, members_of, items_of, below, or_else, child_in, child_of, look, misplaced, is_version_key}
+use Rattle.json_tree.specs.Internal.Misplaced.{first_in_items, first_in_members}
 use Rattle.json_tree.specs.WellFormed.{IsWellFormed}
 use Rattle.json_tree.proofs.Induction.{Each}
 use Rattle.json_tree.proofs.TreeLemmas.{is_lawful-List, is_lawful-Object, child_of-Object-Key, child_of-List-At, child_of-members, child_of-items}
@@ -68,9 +69,11 @@ look_has P keeps (s ∷ ss) t u p h = option_and_then_some (look ss) (child_of t
 
 -- ---- lawful
 
+-- the elements of a lawful list are lawful, each
 pub lawful_items : (items : List (Item Tree)) → is_lawful (v.List items) ≡ true → Each (λ (i : Item Tree). is_lawful i.value ≡ true) items
 lawful_items items h = each_passes (λ i. is_lawful i.value) items (and_parts _ _ (sym (is_lawful-List items) ∙ h)).1
 
+-- the values of a lawful object are lawful, each
 pub lawful_values : (members : List (Member Tree)) → is_lawful (v.Object members) ≡ true → Each (λ (m : Member Tree). is_lawful m.value ≡ true) members
 lawful_values members h = each_passes (λ m. is_lawful m.value) members (and_parts _ _ (sym (is_lawful-Object members) ∙ h)).1
 
@@ -103,11 +106,12 @@ versions_inside t false h = by_level (out-Tree t) refl
         let is = is_object t members e in
         ap (λ u. misplaced u true) is ∙ misplaced-Object members true ∙ sym (misplaced-Object members false) ∙ sym (ap (λ u. misplaced u false) is) ∙ h
 
--- nothing misplaced: nothing below the step, and nothing later
+-- nothing misplaced in the whole: nothing below the first step
 pub none_first : (o later : Option (List Step)) (s : Step) → or_else (below s o) later ≡ None → o ≡ None
 none_first (Some p) later s h = absurd (cc)
 none_first None later s h = refl
 
+-- nothing misplaced in the whole: nothing later
 pub none_later : (o later : Option (List Step)) (s : Step) → or_else (below s o) later ≡ None → later ≡ None
 none_later (Some p) later s h = absurd (cc)
 none_later None later s h = h
@@ -130,11 +134,12 @@ each_member (m ∷ ms) lawful ranged none =
     let one : IsWellFormed m.value = record { lawful = l.0; in_range = r.0; versions = versions_inside m.value (is_version_key m.key) here } in
     (one, each_member ms l.1 r.1 (none_later (misplaced m.value (is_version_key m.key)) (first_in_members ms) (Key m.key) none))
 
--- the elements of a well-formed list, and the values of a well-formed object
+-- the elements of a well-formed list are well formed
 pub well_formed_items : (items : List (Item Tree)) → IsWellFormed (v.List items) → Each (λ (i : Item Tree). IsWellFormed i.value) items
 well_formed_items items w =
     each_item items (and_parts _ _ (sym (is_lawful-List items) ∙ w.lawful)).1 (sym (is_in_range-List items) ∙ w.in_range) (sym (misplaced-List items true) ∙ w.versions)
 
+-- the values of a well-formed object are well formed
 pub well_formed_values : (members : List (Member Tree)) → IsWellFormed (v.Object members) → Each (λ (m : Member Tree). IsWellFormed m.value) members
 well_formed_values members w =
     each_member members (and_parts _ _ (sym (is_lawful-Object members) ∙ w.lawful)).1 (sym (is_in_range-Object members) ∙ w.in_range) (sym (misplaced-Object members true) ∙ w.versions)
@@ -162,17 +167,20 @@ look-one t s = look_nothing (child_of t s)
     look_nothing None = refl
     look_nothing (Some u) = refl
 
--- the member of a key, and the element of an index, are what stands one step below
+-- the member of a key that a step names is what stands one step below
 pub key_child : (r : Option Tree) (t : Tree) (s : Step) (members seen : List (Member Tree)) (key text : List ℕ) → r ≡ value_of text seen → seen ≡ members → text ≡ key → t ≡ v.Object members → s ≡ Key key → r ≡ child_of t s
 key_child r t s members seen key text is same spelled of step =
     is ∙ ap (value_of text) same ∙ ap (λ (k : List ℕ). value_of k members) spelled ∙ sym (child_of-Object-Key members key) ∙ ap (λ u. child_of u (Key key)) (sym of) ∙ ap (child_of t) (sym step)
 
+-- the element of an index that a step names is what stands one step below
 pub at_child : (r : Option Tree) (t : Tree) (s : Step) (items seen : List (Item Tree)) (at : ℕ) → r ≡ option_map (λ i. i.value) (find (λ i. i.at == at) seen) → seen ≡ items → t ≡ v.List items → s ≡ At at → r ≡ child_of t s
 at_child r t s items seen at is same of step =
     is ∙ ap (λ is. option_map (λ i. i.value) (find (λ i. i.at == at) is)) same ∙ sym (child_of-List-At items at) ∙ ap (λ u. child_of u (At at)) (sym of) ∙ ap (child_of t) (sym step)
 
+-- the value at a name among a tree's members is what stands there in the tree
 pub key_of_members : (r : Option Tree) (t : Tree) (members : List (Member Tree)) (key : List ℕ) → r ≡ value_of key members → members_of t ≡ Some members → r ≡ child_of t (Key key)
 key_of_members r t members key is of = is ∙ sym (child_of-members t key ∙ ap (option_and_then (value_of key)) of)
 
+-- the element at an index among a tree's elements is what stands there in the tree
 pub at_of_items : (r : Option Tree) (t : Tree) (items : List (Item Tree)) (at : ℕ) → r ≡ option_map (λ i. i.value) (find (λ i. i.at == at) items) → items_of t ≡ Some items → r ≡ child_of t (At at)
 at_of_items r t items at is of = is ∙ sym (child_of-items t at ∙ ap (option_and_then (λ is. option_map (λ i. i.value) (find (λ i. i.at == at) is))) of)

@@ -4,7 +4,7 @@ pub mod Induction
 pub mod Equations
 pub mod Depths
 pub mod Searching
-pub mod Steps
+pub mod Containers
 pub mod Escapes
 pub mod Writing
 pub mod Compact

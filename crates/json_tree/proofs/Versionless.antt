@@ -7,7 +7,8 @@ use Rattle.json_tree.specs.declared.tree.Tree.TheVariants as v
 use Rattle.json_tree.specs.declared.tree.Item.{Item}
 use Rattle.json_tree.specs.declared.tree.Member.{Member}
 use Rattle.json_tree.specs.Trees.{holds_version, is_lawful, is_in_range}
-use Rattle.json_tree.specs.Places.{misplaced, first_in_items, first_in_members, is_version_key}
+use Rattle.json_tree.specs.Places.{misplaced, is_version_key}
+use Rattle.json_tree.specs.Internal.Misplaced.{first_in_items, first_in_members}
 use Rattle.json_tree.specs.WellFormed.{IsWellFormed}
 use Rattle.json_tree.proofs.Induction.{Each, by_cases}
 use Rattle.json_tree.proofs.TreeLemmas.{is_lawful-Text}
@@ -24,6 +25,7 @@ none_in_members : (ms : List (Member Tree)) → Each (λ (m : Member Tree). HasN
 none_in_members [] e whole = refl
 none_in_members (m ∷ ms) e whole = let p = or_parts (holds_version m.value) _ whole in rw (e.0 p.0 (is_version_key m.key)) (none_in_members ms e.1 p.1)
 
+-- a tree without a version number has none that is misplaced, under whatever name it stands
 pub misplaced-whole : (t : Tree) → holds_version t ≡ false → (named : Bool) → misplaced t named ≡ None
 misplaced-whole = by_cases HasNone record {
   null = λ whole named. misplaced-Null named;

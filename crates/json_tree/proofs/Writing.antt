@@ -9,13 +9,13 @@ use Rattle.json.specs.Written.{Written}
 use Rattle.json.specs.Word.{after_number}
 use Rattle.json.specs.Print.{IsNumber, print}
 use Rattle.base_types.proofs.Lists.{drop-next}
-use Rattle.json_tree.specs.Internal.Writes.{HasWritten}
+use Rattle.json_tree.specs.Internal.Writes.{HasWritten, item_json, member_json}
 use Rattle.json_tree.specs.declared.tree.Tree.{Tree, the_lemmas}
 use Rattle.json_tree.specs.declared.tree.Tree.TheVariants as v
 use Rattle.json_tree.specs.declared.tree.Item.{Item}
 use Rattle.json_tree.specs.declared.tree.Member.{Member}
 use Rattle.json_tree.specs.Trees.{is_in_range, is_64_bits}
-use Rattle.json_tree.specs.Prints.{json_of, json_items, json_members, item_json, member_json, compact_of}
+use Rattle.json_tree.specs.Prints.{json_of, json_items, json_members, compact_of}
 use Rattle.json_tree.proofs.Rising.{left_of, right_of}
 use Rattle.json_tree.proofs.Equations.{is_in_range-Whole, is_in_range-List, is_in_range-Object, json_of-Null, json_of-Bool, json_of-Whole, json_of-Version, json_of-Text, json_of-List, json_of-Object}
 

@@ -1,2 +1,3 @@
+pub mod Misplaced
 pub mod Reading
 pub mod Writes

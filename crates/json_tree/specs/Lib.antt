@@ -1,7 +1,6 @@
 pub mod Trees
 pub mod Places
 pub mod WellFormed
-pub mod Members
 pub mod Reads
 pub mod Prints
 pub mod Internal

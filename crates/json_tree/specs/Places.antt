@@ -101,14 +101,6 @@ misplaced_step (Tree-F.Object members) named =
 abbrev pub misplaced : Tree → Bool → Option (List Step)
 misplaced = fold-Tree (Bool → Option (List Step)) misplaced_step
 
--- the first place in a list's elements, and in an object's members
-abbrev pub first_in_items : List (Item Tree) → Option (List Step)
-first_in_items items = first_of (map (λ i. below (At i.at) (misplaced i.value false)) items)
-
-abbrev pub first_in_members : List (Member Tree) → Option (List Step)
-first_in_members members =
-    first_of (map (λ m. below (Key m.key) (misplaced m.value (is_version_key m.key))) members)
-
 -- The first place of a `Version` that is not the value of a member `@version`: elements in their
 -- order, and members in theirs, which is the byte order of their names.
 abbrev pub first_misplaced : Tree → Option (List Step)

@@ -33,10 +33,6 @@ data_step (Tree-F.Object members) = object (members_data members)
 abbrev pub data_of : Tree → Data
 data_of = fold-Tree Data data_step
 
--- a member with its value's JSON value
-abbrev pub datum : Member Tree → Member Data
-datum m = record { key = m.key; value = data_of m.value }
-
 -- ---- the text
 
 -- elements and members as the grammar's
@@ -62,13 +58,6 @@ json_step (Tree-F.Object members) = json.object (json_members members)
 -- left out.
 abbrev pub json_of : Tree → json.Json
 json_of = fold-Tree json.Json json_step
-
--- an element and a member with its value's JSON
-abbrev pub item_json : Item Tree → Item json.Json
-item_json i = record { at = i.at; value = json_of i.value }
-
-abbrev pub member_json : Member Tree → Member json.Json
-member_json m = record { key = m.key; value = json_of m.value }
 
 -- The compact JSON text of a tree: its tokens with no space between them. RFC 8259, section 2.
 abbrev pub compact_of : Tree → List ℕ

@@ -1,7 +1,8 @@
 //! The search for a number that is not whole where none may stand.
 
 ghost use Rattle.std.specs.Prelude.{◌≡◌, option_map, IfOk};
-ghost use Rattle.json_tree.specs.Places.{misplaced, first_misplaced, first_in_items, first_in_members};
+ghost use Rattle.json_tree.specs.Places.{misplaced, first_misplaced};
+ghost use Rattle.json_tree.specs.Internal.Misplaced.{first_in_items, first_in_members};
 ghost use Rattle.json_tree.specs.Internal.Reading.{steps_found};
 
 use crate::place::{Place, Step};

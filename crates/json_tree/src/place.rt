@@ -1,3 +1,5 @@
+//! Places in a tree, as steps down from its root. RFC 6901, section 4.
+
 use base_types::{Sequence, Text};
 
 /// One step down a tree.

@@ -1,3 +1,5 @@
+//! Places as JSON Pointers. RFC 6901.
+
 ghost use Rattle.std.specs.Prelude.{◌≡◌, ◌++◌, ◌∷◌, IfOk, OnOk, encode_utf8};
 ghost use Rattle.std.specs.List.{flat_map};
 ghost use Rattle.json_tree.specs.Places.{escaped, token_of, pointer_of};

@@ -9,9 +9,9 @@ ghost use Rattle.serde_json.specs.Written.{compact_text};
 ghost use Rattle.json_tree.specs.Trees.{is_in_range, is_64_bits, holds_version, nesting_of, nesting_limit, renumbered};
 ghost use Rattle.json_tree.specs.Places.{is_placed};
 ghost use Rattle.json_tree.specs.WellFormed.{IsWellFormed};
-ghost use Rattle.json_tree.specs.Prints.{data_of, json_of, json_items, json_members, item_json, member_json, compact_of};
+ghost use Rattle.json_tree.specs.Prints.{data_of, json_of, json_items, json_members, compact_of};
 ghost use Rattle.json_tree.specs.Reads.{Reads};
-ghost use Rattle.json_tree.specs.Internal.Writes.{HasWritten};
+ghost use Rattle.json_tree.specs.Internal.Writes.{HasWritten, item_json, member_json};
 
 use crate::tree::{Item, Member, Tree};
 use base_types::Memory;

@@ -1,5 +1,5 @@
 use Rattle.std.proofs.Common.{◌≡◌, drop}
-use Rattle.json_tree.specs.Places.{first_in_items, first_in_members}
+use Rattle.json_tree.specs.Internal.Misplaced.{first_in_items, first_in_members}
 use Rattle.json_tree.proofs.misplaced.+misplaced.Given as goal
 
 -- nothing was found so far, so the first is in the rest

@@ -1,6 +1,7 @@
 use Rattle.std.proofs.Common.{◌≡◌, ◌++◌, map, drop}
 use Rattle.json.specs.Tree.{items_tokens, members_tokens}
-use Rattle.json_tree.specs.Prints.{json_items, json_members, item_json, member_json}
+use Rattle.json_tree.specs.Prints.{json_items, json_members}
+use Rattle.json_tree.specs.Internal.Writes.{item_json, member_json}
 use Rattle.json_tree.proofs.printing.+write.Given as goal
 
 -- what is written, and what is left to write

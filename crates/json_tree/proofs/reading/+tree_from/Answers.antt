@@ -1,5 +1,5 @@
 use Rattle.std.proofs.Common.{refl}
-use Rattle.json_tree.proofs.Steps.{entries_made, list_read, object_read}
+use Rattle.json_tree.proofs.Containers.{entries_made, list_read, object_read}
 use Rattle.json_tree.proofs.reading.+tree_from.Goals as goal
 
 pub members_from-returns : goal.members_from-returns

@@ -1,4 +1,4 @@
--- One turn of each loop that reads a value, and what the loops make.
+-- Lists and objects made of the elements and members that were read.
 use Rattle.std.proofs.Common.{◌≡◌, ℕ, ◌+◌, true, nat_lt, List, [], ◌∷◌, ◌++◌, map, String, string_bytes, string_cmp, Vec, BTreeMap, append-nil, refl, sym, ap, ◌∙◌, arith}
 use Rattle.std.specs.declared.alloc.Global.{Global}
 use Rattle.std.specs.List.{list_all}
