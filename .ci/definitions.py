@@ -25,9 +25,23 @@ def without_comments(text):
     return re.sub(r"--.*", "", text)
 
 
+def at_the_left_edge(lines):
+    """The lines, with what a `mutual` block indents at the left edge too."""
+    made, inside = [], False
+    for line in lines:
+        if re.match(r"(?:abbrev\s+)?mutual\b", line):
+            inside, line = True, ""
+        elif inside and line.startswith("  "):
+            line = line[2:]
+        elif line:
+            inside = False
+        made.append(line)
+    return made
+
+
 def definitions(text):
     """The definitions of an .antt file, in order, each with its lines."""
-    lines, found = text.split("\n"), []
+    lines, found = at_the_left_edge(text.split("\n")), []
     for number, line in enumerate(lines):
         if line.startswith("--"):
             continue
