@@ -6,6 +6,7 @@ use Rattle.json_tree.specs.Trees.{tree_of, elements_of, entries_of, greatest, le
 use Rattle.json_tree.proofs.Equations.{levels_of-Null, levels_of-Bool, levels_of-Whole, levels_of-Version, levels_of-Text, levels_of-List, levels_of-Object}
 
 mutual
+  -- the levels of a tree are those of what the reader read
   pub levels_of-tree_of : (d : Data) → levels_of (tree_of d) ≡ depth d
   levels_of-tree_of null = levels_of-Null
   levels_of-tree_of (boolean b) = levels_of-Bool b

@@ -31,6 +31,7 @@ number_tree n = whole_or_version (as_integer n)
 -- The tree of a JSON value: elements are numbered from 0, and members stand in the order in which
 -- the reader keeps them, which is the byte order of their names.
 abbrev mutual
+  -- the tree of what the reader read
   pub tree_of : Data → Tree
   tree_of null = v.Null
   tree_of (boolean b) = v.Bool b
@@ -39,10 +40,12 @@ abbrev mutual
   tree_of (array ds) = v.List (elements_of 0 ds)
   tree_of (object ms) = v.Object (entries_of ms)
 
+  -- the elements of a list, with their indexes from this number
   pub elements_of : ℕ → Items → List (Item Tree)
   elements_of n no_items = []
   elements_of n (item d ds) = element n (tree_of d) ∷ elements_of (n + 1) ds
 
+  -- the members of an object
   pub entries_of : Members → List (Member Tree)
   entries_of no_members = []
   entries_of (member k d ms) = new_member k (tree_of d) ∷ entries_of ms

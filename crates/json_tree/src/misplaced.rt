@@ -12,7 +12,8 @@ use std::alloc::Global;
 
 /// The first place of a `Version` that is not the value of a member `@version`.
 pub fn first_misplaced(alloc: Global, tree: &Tree) -> Result<Option<Place>, Memory>
-    ensures { IfOk result (λ found. option_map (λ place. place.steps) found ≡ first_misplaced tree.now) }
+    ensures { IfOk result (λ found.
+        option_map (λ place. place.steps) found ≡ first_misplaced tree.now) }
 {
     let Some(mut steps) = find(alloc, tree, false)? else {
         return Ok(None);
