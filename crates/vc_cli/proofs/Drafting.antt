@@ -7,11 +7,11 @@ use Rattle.json_tree.specs.declared.tree.Tree.TheVariants as v
 use Rattle.json_tree.specs.declared.tree.Member.{Member}
 use Rattle.json_tree.specs.Trees.{new_member, is_before}
 use Rattle.ld_rdf.specs.Reduced.{put_member, with_member}
-use Rattle.vc_cli.specs.declared.secured.Slot.{Slot}
-use Rattle.vc_cli.specs.declared.secured.Draft.{Draft}
-use Rattle.vc_cli.specs.Requests.{proof_name, secured, value_name}
-use Rattle.vc_cli.specs.Drafts.{IsObject, IsPrintable, filled, filled_object, finished, is_named, place_of}
-use Rattle.vc_cli.proofs.Putting.{fill_new, fill_own, filled_set, text_printable, with_member-Object, with_member-printable}
+use Rattle.vc_cli.specs.declared.draft.Slot.{Slot}
+use Rattle.vc_cli.specs.declared.draft.Draft.{Draft}
+use Rattle.vc_cli.specs.Requests.{proof_name, with_proof, value_name}
+use Rattle.vc_cli.specs.Internal.Drafts.{IsObject, IsPrintable, with_value_at, object_with, document_with, is_named, place_of}
+use Rattle.vc_cli.proofs.Putting.{fill_new, fill_own, value_set, text_printable, with_member-Object, with_member-printable}
 
 -- ---- turned around
 
@@ -69,17 +69,17 @@ named_not (m ∷ ms) (suc at) key d within h = elim (named_not ms at key d (omeg
 pub slot_within : (ms : List (Member Tree)) (at : ℕ) (key : List ℕ) → is_named ms at key ≡ true → at < length ms
 slot_within ms at key h = (named_within ms at key (new_member [] v.Null) h).0
 
-pub slot_own : (ms : List (Member Tree)) (at : ℕ) (key : List ℕ) → at ≡ place_of key ms → is_named ms at key ≡ true → (value : Tree) → filled ms at value ≡ put_member (new_member key value) ms
+pub slot_own : (ms : List (Member Tree)) (at : ℕ) (key : List ℕ) → at ≡ place_of key ms → is_named ms at key ≡ true → (value : Tree) → with_value_at ms at value ≡ put_member (new_member key value) ms
 slot_own ms at key place h = λ value.
     let own = named_within ms (place_of key ms) key (new_member [] v.Null) (subst (λ (n : ℕ). is_named ms n key ≡ true) place h) in
-    ap (λ (n : ℕ). filled ms n value) place ∙ fill_own key value ms (new_member [] v.Null) own.0 own.1
+    ap (λ (n : ℕ). with_value_at ms n value) place ∙ fill_own key value ms (new_member [] v.Null) own.0 own.1
 
-pub slot_new : (ms : List (Member Tree)) (at : ℕ) (key : List ℕ) (w : Tree) → at ≡ place_of key ms → at ≤ length ms → is_named ms at key ≡ false → (value : Tree) → filled (insert ms at (new_member key w)) at value ≡ put_member (new_member key value) ms
+pub slot_new : (ms : List (Member Tree)) (at : ℕ) (key : List ℕ) (w : Tree) → at ≡ place_of key ms → at ≤ length ms → is_named ms at key ≡ false → (value : Tree) → with_value_at (insert ms at (new_member key w)) at value ≡ put_member (new_member key value) ms
 slot_new ms at key w place within h = λ value.
     let other = named_not ms (place_of key ms) key (new_member [] v.Null) (subst (λ (n : ℕ). n ≤ length ms) place within) (subst (λ (n : ℕ). is_named ms n key ≡ false) place h) in
-    ap (λ (n : ℕ). filled (insert ms n (new_member key w)) n value) place ∙ fill_new key value w ms (new_member [] v.Null) other
+    ap (λ (n : ℕ). with_value_at (insert ms n (new_member key w)) n value) place ∙ fill_new key value w ms (new_member [] v.Null) other
 
-pub slot_object : (object : Tree) (members once turned twice : List (Member Tree)) (slot : Slot) (key : List ℕ) → object ≡ v.Object members → turned ≡ reverse members → once ≡ turned → twice ≡ reverse once → ((value : Tree) → filled slot.members.items slot.at value ≡ put_member (new_member key value) twice) → (value : Tree) → filled_object slot value ≡ with_member key value object
+pub slot_object : (object : Tree) (members once turned twice : List (Member Tree)) (slot : Slot) (key : List ℕ) → object ≡ v.Object members → turned ≡ reverse members → once ≡ turned → twice ≡ reverse once → ((value : Tree) → with_value_at slot.members.items slot.at value ≡ put_member (new_member key value) twice) → (value : Tree) → object_with slot value ≡ with_member key value object
 slot_object object members once turned twice slot key is first same second puts = λ value.
     let whole : twice ≡ members = second ∙ ap reverse same ∙ ap reverse first ∙ reverse-reverse members in
     ap v.Object (puts value) ∙ ap (λ (l : List (Member Tree)). v.Object (put_member (new_member key value) l)) whole
@@ -87,19 +87,19 @@ slot_object object members once turned twice slot key is first same second puts 
 
 -- ---- drafts
 
-module _ (draft : Draft) (d o : Tree) (document : (value : Tree) → filled_object draft.document value ≡ with_member proof_name value d) (options : (value : Tree) → filled_object draft.options value ≡ with_member value_name value o) where
-  pub draft_secured : (value : List ℕ) → finished draft value ≡ secured d o value
-  draft_secured value = document (filled_object draft.options (v.Text value)) ∙ ap (λ (x : Tree). with_member proof_name x d) (options (v.Text value))
+module _ (draft : Draft) (d o : Tree) (document : (value : Tree) → object_with draft.document value ≡ with_member proof_name value d) (options : (value : Tree) → object_with draft.options value ≡ with_member value_name value o) where
+  pub draft_secured : (value : List ℕ) → document_with draft value ≡ with_proof d o value
+  draft_secured value = document (object_with draft.options (v.Text value)) ∙ ap (λ (x : Tree). with_member proof_name x d) (options (v.Text value))
 
-  pub draft_printable : IsObject d × IsPrintable d → IsObject o × IsPrintable o → (value : List ℕ) → IsPrintable (finished draft value)
+  pub draft_printable : IsObject d × IsPrintable d → IsObject o × IsPrintable o → (value : List ℕ) → IsPrintable (document_with draft value)
   draft_printable p q = λ value.
-      let s : IsPrintable (secured d o value) = secured_printable value p q in
+      let s : IsPrintable (with_proof d o value) = secured_printable value p q in
       subst IsPrintable (sym (draft_secured value)) s
     where
       options_object : (value : List ℕ) → IsObject o × IsPrintable o → IsPrintable (with_member value_name (v.Text value) o)
       options_object value q = with_member-printable value_name (v.Text value) o (text_printable value) q.0 q.1
 
-      secured_printable : (value : List ℕ) → IsObject d × IsPrintable d → IsObject o × IsPrintable o → IsPrintable (secured d o value)
+      secured_printable : (value : List ℕ) → IsObject d × IsPrintable d → IsObject o × IsPrintable o → IsPrintable (with_proof d o value)
       secured_printable value p q = with_member-printable proof_name (with_member value_name (v.Text value) o) d (options_object value q) p.0 p.1
 
 pub ruleset turning = (turned_more)
@@ -112,6 +112,6 @@ pub ruleset slots = (slot_own, slot_new, slot_within)
 
 pub ruleset objects = (slot_object)
 
-pub ruleset filling = (filled_set)
+pub ruleset filling = (value_set)
 
 pub ruleset drafts = (draft_secured, draft_printable)

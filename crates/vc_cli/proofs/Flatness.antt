@@ -22,10 +22,10 @@ use Rattle.ld_rdf.proofs.Meaning.{value_at_member}
 use Rattle.vc_cli.specs.declared.requests.IssueRead.{IssueRead}
 use Rattle.vc_cli.specs.declared.tasks.IssueTask.{IssueTask}
 use Rattle.key_device.specs.declared.table.KeyTable.{KeyTable}
-use Rattle.vc_cli.specs.Requests.{at, whole_document}
-use Rattle.vc_cli.specs.Tasks.{IsIssueTask}
-use Rattle.vc_cli.specs.Drafts.{IsObject, IsPrintable}
-use Rattle.vc_cli.specs.Parts.{IsIssueRead, issue_object}
+use Rattle.vc_cli.specs.Requests.{at, issue_object, whole_document}
+use Rattle.vc_cli.specs.Internal.Tasks.{IsIssueTask}
+use Rattle.vc_cli.specs.Internal.Drafts.{IsObject, IsPrintable}
+use Rattle.vc_cli.specs.Internal.Parts.{IsIssueRead}
 use Rattle.vc_cli.proofs.Looks.{look_in, members_of-changed}
 use Rattle.vc_cli.proofs.Putting.{put_contains, with_member-lawful}
 

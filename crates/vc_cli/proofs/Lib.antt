@@ -1,4 +1,4 @@
-pub mod Facts
+pub mod FlatTexts
 pub mod Looks
 pub mod Putting
 pub mod Tables
@@ -6,8 +6,8 @@ pub mod Parting
 pub mod Printing
 pub mod Flatness
 pub mod Drafting
-pub mod LineFacts
-pub mod VerifyFacts
-pub mod ReplyFacts
-pub mod RunFacts
-pub mod IssueFacts
+pub mod FlatLines
+pub mod Verdicts
+pub mod StageReplies
+pub mod CommandWords
+pub mod IssuedProofs

@@ -17,7 +17,7 @@ use Rattle.ld_rdf.specs.Parts.{provided}
 use Rattle.ld_rdf.specs.Reduced.{changed, changed_in, without, without_key}
 use Rattle.ld_rdf.proofs.Helpers.{and_then-Some, provided-Some, map_or-true, same_text, equal_text}
 use Rattle.vc_cli.specs.Requests.{HasShape, at, value_name}
-use Rattle.vc_cli.specs.Parts.{has_form, has_text, lacks, method_in, text_under}
+use Rattle.vc_cli.specs.Internal.Parts.{has_form, has_text, lacks, method_in, text_under}
 
 -- ---- one step
 

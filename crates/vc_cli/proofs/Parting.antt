@@ -17,9 +17,9 @@ use Rattle.ld_rdf.specs.Reduced.{statements_request, taking, without}
 use Rattle.ld_rdf.proofs.Helpers.{and_then-Some, option_map-Some, provided-Some, same_text}
 use Rattle.vc_cli.specs.declared.requests.IssueRead.{IssueRead}
 use Rattle.vc_cli.specs.declared.tasks.VerifyTask.{VerifyTask}
-use Rattle.vc_cli.specs.Requests.{HasShape, IsFlatIssue, IsFlatVerify, IsIssue, IsKeyTable, IsVerify, IssueParts, VerifyParts, at, proof_name, value_name, whole_document}
-use Rattle.vc_cli.specs.Tasks.{IsVerifyTask}
-use Rattle.vc_cli.specs.Parts.{IsIssueRead, five_in, five_of, issue_names, issue_object, lacks, method_in, proof_parts, text_under, three_in, three_of}
+use Rattle.vc_cli.specs.Requests.{HasShape, IsFlatIssue, IsFlatVerify, IsIssue, IsKeyTable, IsVerify, IssueParts, VerifyParts, at, issue_object, proof_name, value_name, whole_document}
+use Rattle.vc_cli.specs.Internal.Tasks.{IsVerifyTask}
+use Rattle.vc_cli.specs.Internal.Parts.{IsIssueRead, five_in, five_of, issue_names, lacks, method_in, proof_parts, text_under, three_in, three_of}
 use Rattle.vc_cli.proofs.Looks.{SameBeside, form_from, form_of, look_removed, look_without, method_from, none_from, shape_from, text_under-from, text_under-Some, without_absent}
 
 -- ---- the members
@@ -144,11 +144,11 @@ module _ (r : Tree) where
 
   issue_named : (p : IssueParts) → IsIssue r p → issue_names p.document p.options ≡ Some (p.name, p.method)
   issue_named p i =
-      let a : lacks proof_name p.document ≡ true = ap is_none i.unsecured in
+      let a : lacks proof_name p.document ≡ true = ap is_none i.no_proof in
       let b : lacks value_name p.options ≡ true = ap is_none i.shape.no_value in
       let same : SameBeside value_name p.options p.options = λ key e. refl in
       let m : method_in p.options ≡ Some p.method = method_from p.options p.method (form_from p.options p.options p.method same i.shape) in
-      let n : text_under at_context p.document ≡ Some p.name = text_under-from at_context p.document p.name i.named in
+      let n : text_under at_context p.document ≡ Some p.name = text_under-from at_context p.document p.name i.context_is in
       names_from (lacks proof_name p.document) (lacks value_name p.options) (text_under at_context p.document) (method_in p.options) p.name p.method a b n m
     where
       names_from : (a b : Bool) (n m : Option (List ℕ)) (x y : List ℕ) → a ≡ true → b ≡ true → n ≡ Some x → m ≡ Some y → provided (a && b) (option_and_then (λ name. option_map (λ method. two_texts name method) m) n) ≡ Some (two_texts x y)
@@ -178,7 +178,7 @@ module _ (r : Tree) where
     pub no_document : (IsFlat (statements_request c (without proof_name d)) → ⊥) → IsFlatIssue r → ⊥
     no_document never f =
         let p = f.parts in
-        let whole : without proof_name p.document ≡ p.document = without_absent proof_name p.document f.are.unsecured in
+        let whole : without proof_name p.document ≡ p.document = without_absent proof_name p.document f.are.no_proof in
         let flat : IsFlat (statements_request p.contexts (without proof_name p.document)) = subst (λ (t : Tree). IsFlat (statements_request p.contexts t)) (sym whole) f.are.document in
         never (subst (λ (t : Five). IsFlat (statements_request t.0 (without proof_name t.1))) (same_five p f.are) flat)
 
@@ -218,8 +218,8 @@ module _ (r : Tree) where
             are = record {
               is = five_of-Some r c d k m o has ∙ ap (λ (x : Tree). issue_object c d k x o) whole;
               document = subst (λ (x : Tree). IsFlat (statements_request c x)) d_whole flat;
-              unsecured = no_proof;
-              named = text_under-Some at_context d name (outer.1 ∙ ap Some name_is);
+              no_proof = no_proof;
+              context_is = text_under-Some at_context d name (outer.1 ∙ ap Some name_is);
               options = subst (λ (x : Tree). IsFlat (statements_request c (taking name x))) o_whole oflat;
               shape = shape;
               table = table;
@@ -249,9 +249,9 @@ module _ (r : Tree) where
   verify_parted : (p : VerifyParts) → IsVerify r p → proof_parts p.document ≡ Some (p.proof, p.name, p.method, p.value)
   verify_parted p i =
       let m : method_in p.proof ≡ Some p.method = method_from p.proof p.method (form_from p.proof (without value_name p.proof) p.method (look_without p.proof value_name) i.shape) in
-      let n : text_under at_context p.document ≡ Some p.name = text_under-from at_context p.document p.name i.named in
-      let w : text_under value_name p.proof ≡ Some p.value = text_under-from value_name p.proof p.value i.valued in
-      rw (i.secured, n, m, w) refl
+      let n : text_under at_context p.document ≡ Some p.name = text_under-from at_context p.document p.name i.context_is in
+      let w : text_under value_name p.proof ≡ Some p.value = text_under-from value_name p.proof p.value i.value_is in
+      rw (i.proof_is, n, m, w) refl
 
   pub no_three : three_of r ≡ None → IsFlatVerify r → ⊥
   no_three none f = none_some (three_of r) _ none (verify_three f.parts f.are)
@@ -304,9 +304,9 @@ module _ (r : Tree) where
           are = record {
             is = three_of-Some r c d k has;
             document = flat;
-            secured = f0.1 ∙ ap Some proof_is;
-            named = text_under-Some at_context d name (f1.1 ∙ ap Some name_is);
-            valued = text_under-Some value_name proof value (ap (text_under value_name) (sym proof_is) ∙ f3.1 ∙ ap Some value_here);
+            proof_is = f0.1 ∙ ap Some proof_is;
+            context_is = text_under-Some at_context d name (f1.1 ∙ ap Some name_is);
+            value_is = text_under-Some value_name proof value (ap (text_under value_name) (sym proof_is) ∙ f3.1 ∙ ap Some value_here);
             options = oflat;
             shape = shape;
             table = table;

@@ -5,7 +5,6 @@ use Rattle.std.proofs.lemmas.List.{length-take-le, take_all}
 use Rattle.std.proofs.lemmas.Grind.{get_or_default_zero}
 use Rattle.std.proofs.lemmas.Bool.Decides.{nat_tests}
 use Rattle.std.specs.List.{list_all, list_any}
-use Rattle.hex.specs.Hex.{encode_lower}
 use Rattle.key_device.specs.declared.keys.KeyName.{KeyName}
 use Rattle.stmt_groups.specs.declared.types.Cause.{Cause}
 use Rattle.json_tree.specs.declared.tree.Tree.{Tree}
@@ -16,8 +15,8 @@ use Rattle.json_tree.specs.Trees.{each_next, element, new_member, holds_version,
 use Rattle.json_tree.proofs.Rising.{both_hold, left_of, right_of}
 use Rattle.json_tree.proofs.TreeLemmas.{is_lawful-List, is_lawful-Whole}
 use Rattle.json_tree.proofs.Equations.{holds_version-List, holds_version-Whole, is_in_range-List}
-use Rattle.vc_cli.specs.Drafts.{IsPrintable}
-use Rattle.vc_cli.specs.Written.{cause_fields, issued_tree, line_of, named, no_key_tree, number_field, refused_tree, rejected_tree, text_field, verified_tree, whole_items}
+use Rattle.vc_cli.specs.Internal.Drafts.{IsPrintable}
+use Rattle.vc_cli.specs.ReplyTrees.{cause_fields, issued_tree, key_field, line_of, name_field, no_key_tree, number_field, refusal_tree, rejected_tree, verified_tree, whole_items}
 
 -- ---- lists of whole numbers
 
@@ -84,8 +83,8 @@ two_fields a b x y p q = ap (λ (m : Member Tree). m ∷ b ∷ []) p ∙ ap (λ 
 one_more : (a x : Member Tree) (ys xs : List (Member Tree)) → a ≡ x → ys ≡ xs → a ∷ ys ≡ x ∷ xs
 one_more a x ys xs p q = ap (λ (m : Member Tree). m ∷ ys) p ∙ ap (λ (l : List (Member Tree)). x ∷ l) q
 
-pub no_key_is : (t : Tree) (fields : List (Member Tree)) (a b : Member Tree) (key : KeyName) → t ≡ refused_tree fields → fields ≡ a ∷ b ∷ [] → a ≡ text_field (codes "key") (encode_lower key.bytes) → b ≡ named (codes "NoKey") → t ≡ no_key_tree key
-no_key_is t fields a b key is both p q = is ∙ ap refused_tree (both ∙ two_fields a b _ _ p q)
+pub no_key_is : (t : Tree) (fields : List (Member Tree)) (a b : Member Tree) (key : KeyName) → t ≡ refusal_tree fields → fields ≡ a ∷ b ∷ [] → a ≡ key_field (codes "key") key → b ≡ name_field (codes "NoKey") → t ≡ no_key_tree key
+no_key_is t fields a b key is both p q = is ∙ ap refusal_tree (both ∙ two_fields a b _ _ p q)
 
 pub rejected_is : (members fields : List (Member Tree)) (a b : Member Tree) (c : Cause) → members ≡ a ∷ b ∷ [] → a ≡ new_member (codes "cause") (v.Object fields) → b ≡ new_member (codes "verified") (v.Bool false) → fields ≡ cause_fields c → v.Object members ≡ rejected_tree c
 rejected_is members fields a b c both p q is =
@@ -95,7 +94,7 @@ pub issued_is : (members : List (Member Tree)) (a b c d : Member Tree) (document
 issued_is members a b c d document mandatory statements all p q r s =
     ap v.Object (all ∙ one_more a _ _ _ p (one_more b _ _ _ q (two_fields c d _ _ r s)))
 
-pub verified_is : (members : List (Member Tree)) (a b c d e f g : Member Tree) (issuer key : KeyName) (labels : List (Member Tree)) (items : List (Item Tree)) (seen indexes : List ℕ) (statements : ℕ) → members ≡ a ∷ b ∷ c ∷ d ∷ e ∷ f ∷ g ∷ [] → a ≡ text_field (codes "key") (encode_lower issuer.bytes) → labels ≡ [] → b ≡ new_member (codes "labels") (v.Object labels) → seen ≡ indexes → items ≡ whole_items 0 seen → c ≡ new_member (codes "mandatory") (v.List items) → d ≡ text_field (codes "statementKey") (encode_lower key.bytes) → e ≡ number_field (codes "statements") statements → f ≡ new_member (codes "tie") (v.Bool false) → g ≡ new_member (codes "verified") (v.Bool true) → v.Object members ≡ verified_tree issuer indexes key statements
+pub verified_is : (members : List (Member Tree)) (a b c d e f g : Member Tree) (issuer key : KeyName) (labels : List (Member Tree)) (items : List (Item Tree)) (seen indexes : List ℕ) (statements : ℕ) → members ≡ a ∷ b ∷ c ∷ d ∷ e ∷ f ∷ g ∷ [] → a ≡ key_field (codes "key") issuer → labels ≡ [] → b ≡ new_member (codes "labels") (v.Object labels) → seen ≡ indexes → items ≡ whole_items 0 seen → c ≡ new_member (codes "mandatory") (v.List items) → d ≡ key_field (codes "statementKey") key → e ≡ number_field (codes "statements") statements → f ≡ new_member (codes "tie") (v.Bool false) → g ≡ new_member (codes "verified") (v.Bool true) → v.Object members ≡ verified_tree issuer indexes key statements
 verified_is members a b c d e f g issuer key labels items seen indexes statements all p none q same is r s t u w =
     let empty : b ≡ new_member (codes "labels") (v.Object []) = q ∙ ap (λ (l : List (Member Tree)). new_member (codes "labels") (v.Object l)) none in
     let numbers : items ≡ whole_items 0 indexes = is ∙ ap (whole_items 0) same in

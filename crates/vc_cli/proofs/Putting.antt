@@ -17,7 +17,7 @@ use Rattle.json_tree.proofs.TreeLemmas.{is_lawful-Object, is_lawful-Text}
 use Rattle.json_tree.proofs.Equations.{is_in_range-Object, is_in_range-Text, holds_version-Object, holds_version-Text}
 use Rattle.ld_rdf.specs.Reduced.{changed_in, put_member, with_member}
 use Rattle.ld_rdf.proofs.Helpers.{same_text, equal_text}
-use Rattle.vc_cli.specs.Drafts.{IsObject, IsPrintable, filled, place_of}
+use Rattle.vc_cli.specs.Internal.Drafts.{IsObject, IsPrintable, with_value_at, place_of}
 
 -- ---- the order of names
 
@@ -155,13 +155,13 @@ with_member-printable key value t one o all =
 pub text_printable : (text : List ℕ) → IsPrintable (v.Text text)
 text_printable text = record { lawful = is_lawful-Text text; in_range = is_in_range-Text text; whole = holds_version-Text text }
 
--- ---- places that are filled
+-- ---- places that are with_value_at
 
 -- another value at an index
-pub filled_set : (ms : List (Member Tree)) (at : ℕ) (value : Tree) (d : Member Tree) → at < length ms → set ms at (new_member (get_or ms at d).key value) ≡ filled ms at value
-filled_set [] at value d h = absurd (omega arith)
-filled_set (m ∷ ms) zero value d h = refl
-filled_set (m ∷ ms) (suc at) value d h = ap (λ (l : List (Member Tree)). m ∷ l) (filled_set ms at value d (omega arith))
+pub value_set : (ms : List (Member Tree)) (at : ℕ) (value : Tree) (d : Member Tree) → at < length ms → set ms at (new_member (get_or ms at d).key value) ≡ with_value_at ms at value
+value_set [] at value d h = absurd (omega arith)
+value_set (m ∷ ms) zero value d h = refl
+value_set (m ∷ ms) (suc at) value d h = ap (λ (l : List (Member Tree)). m ∷ l) (value_set ms at value d (omega arith))
 
 module _ (key : List ℕ) (value : Tree) where
   stops : (m : Member Tree) (ms : List (Member Tree)) → (is_before key m.key || bytes_eq key m.key) ≡ true → place_of key (m ∷ ms) ≡ 0
@@ -170,7 +170,7 @@ module _ (key : List ℕ) (value : Tree) where
   goes : (m : Member Tree) (ms : List (Member Tree)) → (is_before key m.key || bytes_eq key m.key) ≡ false → place_of key (m ∷ ms) ≡ suc (place_of key ms)
   goes m ms h = rw h refl
 
-  pub fill_own : (ms : List (Member Tree)) (d : Member Tree) → place_of key ms < length ms → bytes_eq (get_or ms (place_of key ms) d).key key ≡ true → filled ms (place_of key ms) value ≡ put_member (new_member key value) ms
+  pub fill_own : (ms : List (Member Tree)) (d : Member Tree) → place_of key ms < length ms → bytes_eq (get_or ms (place_of key ms) d).key key ≡ true → with_value_at ms (place_of key ms) value ≡ put_member (new_member key value) ms
   fill_own [] d h e = absurd (omega arith)
   fill_own (m ∷ ms) d h e =
       elim (cases_Bool (is_before key m.key)) [
@@ -194,7 +194,7 @@ module _ (key : List ℕ) (value : Tree) where
         ]
       ]
 
-  pub fill_new : (w : Tree) (ms : List (Member Tree)) (d : Member Tree) → (place_of key ms ≡ length ms) ⊎ (bytes_eq (get_or ms (place_of key ms) d).key key ≡ false) → filled (insert ms (place_of key ms) (new_member key w)) (place_of key ms) value ≡ put_member (new_member key value) ms
+  pub fill_new : (w : Tree) (ms : List (Member Tree)) (d : Member Tree) → (place_of key ms ≡ length ms) ⊎ (bytes_eq (get_or ms (place_of key ms) d).key key ≡ false) → with_value_at (insert ms (place_of key ms) (new_member key w)) (place_of key ms) value ≡ put_member (new_member key value) ms
   fill_new w [] d h = refl
   fill_new w (m ∷ ms) d h =
       elim (cases_Bool (is_before key m.key)) [

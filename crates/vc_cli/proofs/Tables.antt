@@ -14,7 +14,7 @@ use Rattle.key_device.specs.declared.table.KeyEntry.{KeyEntry}
 use Rattle.ld_rdf.specs.declared.fault.FlatFault.{FlatFault}
 use Rattle.ld_rdf.specs.declared.fault.FlatFault.TheVariants.{NotBuilt}
 use Rattle.vc_cli.specs.Requests.{IsKeyEntry, IsKeyTable}
-use Rattle.vc_cli.specs.Parts.{AreDigits}
+use Rattle.vc_cli.specs.Internal.Parts.{AreDigits}
 
 -- ---- digits
 

@@ -1,10 +1,7 @@
 pub mod Replies
+pub mod ReplyTrees
 pub mod Requests
-pub mod Written
 pub mod Issuing
 pub mod Verifying
 pub mod Answers
-pub mod Tasks
-pub mod Parts
-pub mod Drafts
-pub mod Stages
+pub mod Internal

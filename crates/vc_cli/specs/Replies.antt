@@ -1,58 +1,41 @@
 -- The bytes of each reply, and the status that goes with it.
-use Rattle.std.specs.Prelude.{ℕ, List, [], ◌∷◌, ◌++◌, codes}
-use Rattle.json_tree.specs.Prints.{json_string}
+use Rattle.std.specs.Prelude.{ℕ, List, codes}
 use Rattle.vc_cli.specs.declared.reply.Reply.{Reply}
 use Rattle.vc_cli.specs.declared.reply.Reply.TheVariants as reply
 use Rattle.vc_cli.specs.declared.status.Status.{Status}
 use Rattle.vc_cli.specs.declared.status.Status.TheVariants as status
+use Rattle.vc_cli.specs.ReplyTrees.{limit_refusal, line_of, plain_refusal}
 
--- the line `usage: vc_cli statements|issue|verify`, with LF
+-- the most bytes that are read, and the deepest nesting
+abbrev pub input_limit : ℕ
+input_limit = 8388608
+
+abbrev pub depth_limit : ℕ
+depth_limit = 100
+
+-- the line that says how the program is called, with LF
 abbrev pub usage_line : List ℕ
-usage_line = codes "usage: vc_cli statements|issue|verify" ++ 10 ∷ []
-
--- a text in quotes; of a text that needs no escape
-abbrev pub quoted : List ℕ → List ℕ
-quoted text = 34 ∷ (text ++ 34 ∷ [])
-
--- `{"refused":{` and the fields, then `}}` and LF
-abbrev pub refused : List ℕ → List ℕ
-refused fields = 123 ∷ (quoted (codes "refused") ++ (58 ∷ 123 ∷ (fields ++ 125 ∷ 125 ∷ 10 ∷ [])))
-
--- the field `"name":` and the name of the refusal
-abbrev pub named : List ℕ → List ℕ
-named name = quoted (codes "name") ++ (58 ∷ quoted name)
-
--- the field `"limit":` and a number's digits
-abbrev pub limited : List ℕ → List ℕ
-limited digits = quoted (codes "limit") ++ (58 ∷ digits)
-
--- the field `"place":` and a place's text as a JSON string
-abbrev pub placed : List ℕ → List ℕ
-placed text = quoted (codes "place") ++ (58 ∷ json_string text)
-
--- the refusal of a number that is not whole, at the place with this text
-abbrev pub not_whole_line : List ℕ → List ℕ
-not_whole_line text = refused (named (codes "NotWhole") ++ (44 ∷ placed text))
+usage_line = codes "usage: vc_cli statements|issue|verify\n"
 
 -- the bytes of a reply
 abbrev pub bytes_of : Reply → List ℕ
 bytes_of (reply.Statements text) = text
 bytes_of reply.Usage = usage_line
-bytes_of reply.TooLong = refused (limited (codes "8388608") ++ (44 ∷ named (codes "TooLong")))
-bytes_of reply.NotJson = refused (named (codes "NotJson"))
-bytes_of reply.TreeTooDeep = refused (limited (codes "100") ++ (44 ∷ named (codes "TreeTooDeep")))
+bytes_of reply.TooLong = line_of (limit_refusal input_limit (codes "TooLong"))
+bytes_of reply.NotJson = line_of (plain_refusal (codes "NotJson"))
+bytes_of reply.TreeTooDeep = line_of (limit_refusal depth_limit (codes "TreeTooDeep"))
 bytes_of (reply.NotWhole line) = line
-bytes_of reply.NotBuilt = refused (named (codes "NotBuilt"))
-bytes_of reply.ReadFault = refused (named (codes "ReadFault"))
-bytes_of reply.NoStatements = refused (named (codes "NoStatements"))
+bytes_of reply.NotBuilt = line_of (plain_refusal (codes "NotBuilt"))
+bytes_of reply.NoStatements = line_of (plain_refusal (codes "NoStatements"))
 bytes_of (reply.UnknownMethod line) = line
 bytes_of (reply.NoKey line) = line
 bytes_of (reply.ProofValue line) = line
-bytes_of (reply.Issued line) = line
-bytes_of (reply.Verified line) = line
-bytes_of (reply.Rejected line) = line
-bytes_of reply.DeviceFault = refused (named (codes "DeviceFault"))
-bytes_of reply.Memory = refused (named (codes "Memory"))
+bytes_of (reply.Document line) = line
+bytes_of (reply.Yes line) = line
+bytes_of (reply.No line) = line
+bytes_of reply.DeviceFault = line_of (plain_refusal (codes "DeviceFault"))
+bytes_of reply.ReadFault = line_of (plain_refusal (codes "ReadFault"))
+bytes_of reply.Memory = line_of (plain_refusal (codes "Memory"))
 
 -- the status of a reply that was written whole
 abbrev pub status_of : Reply → Status
@@ -63,13 +46,13 @@ status_of reply.NotJson = status.Input
 status_of reply.TreeTooDeep = status.Input
 status_of (reply.NotWhole line) = status.Input
 status_of reply.NotBuilt = status.Input
-status_of reply.ReadFault = status.ReadFault
 status_of reply.NoStatements = status.Input
 status_of (reply.UnknownMethod line) = status.Input
 status_of (reply.NoKey line) = status.Input
 status_of (reply.ProofValue line) = status.Input
-status_of (reply.Issued line) = status.Done
-status_of (reply.Verified line) = status.Done
-status_of (reply.Rejected line) = status.No
+status_of (reply.Document line) = status.Done
+status_of (reply.Yes line) = status.Done
+status_of (reply.No line) = status.No
 status_of reply.DeviceFault = status.DeviceFault
+status_of reply.ReadFault = status.ReadFault
 status_of reply.Memory = status.Memory

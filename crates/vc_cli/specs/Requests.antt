@@ -36,8 +36,8 @@ pub record IsKeyTable (keys : Tree) (table : List KeyEntry) : Type 0 where
   pub is : keys ≡ v.Object members
   pub each : AllZip IsKeyEntry members table
 
--- Proof options that have neither a time nor a value, with this verification method.
--- Data Integrity 1.0, 2.1; Data Integrity ECDSA Cryptosuites 1.0, 3.6.5
+-- Proof options that have neither a time nor a value, with this verification method. Data Integrity
+-- 1.0, proofs; its ECDSA Cryptosuites 1.0, base proof configuration (ecdsa-sd-2023)
 pub record HasShape (options : Tree) (method : List ℕ) : Type 0 where
   pub purpose : List ℕ
   pub type_is : HasText (at (codes "type")) options (codes "DataIntegrityProof")
@@ -52,6 +52,15 @@ pub record HasShape (options : Tree) (method : List ℕ) : Type 0 where
 -- the pointers by which every statement is mandatory: the one empty pointer
 abbrev pub whole_document : Tree
 whole_document = v.List (element 0 (v.Text []) ∷ [])
+
+-- the members of a request for issuing, with any list of pointers
+abbrev pub issue_object : Tree → Tree → Tree → Tree → Tree → Tree
+issue_object contexts document keys mandatory options = v.Object (
+    new_member (codes "contexts") contexts
+    ∷ new_member (codes "document") document
+    ∷ new_member (codes "keys") keys
+    ∷ new_member (codes "mandatory") mandatory
+    ∷ new_member (codes "options") options ∷ [])
 
 -- the parts of a request for issuing
 pub record IssueParts : Type 0 where
@@ -71,13 +80,13 @@ issue_body p = statements_request p.contexts p.document
 abbrev pub issue_options : IssueParts → Tree
 issue_options p = statements_request p.contexts (taking p.name p.options)
 
--- A flat request for issuing: exactly these members, every statement mandatory, a flat document without a
--- proof, and flat options of the right shape.
+-- A flat request for issuing: exactly these members, every statement mandatory, a flat document without
+-- a proof, and flat options of the right shape.
 pub record IsIssue (r : Tree) (p : IssueParts) : Type 0 where
-  pub is : r ≡ v.Object (new_member (codes "contexts") p.contexts ∷ new_member (codes "document") p.document ∷ new_member (codes "keys") p.keys ∷ new_member (codes "mandatory") whole_document ∷ new_member (codes "options") p.options ∷ [])
+  pub is : r ≡ issue_object p.contexts p.document p.keys whole_document p.options
   pub document : IsFlat (issue_body p)
-  pub unsecured : look (at proof_name) p.document ≡ None
-  pub named : HasText (at at_context) p.document p.name
+  pub no_proof : look (at proof_name) p.document ≡ None
+  pub context_is : HasText (at at_context) p.document p.name
   pub options : IsFlat (issue_options p)
   pub shape : HasShape p.options p.method
   pub table : IsKeyTable p.keys p.table
@@ -87,8 +96,16 @@ pub record IsFlatIssue (r : Tree) : Type 0 where
   pub are : IsIssue r parts
 
 -- the document with the options and a proof value as its proof
-abbrev pub secured : Tree → Tree → List ℕ → Tree
-secured document options value = with_member proof_name (with_member value_name (v.Text value) options) document
+abbrev pub with_proof : Tree → Tree → List ℕ → Tree
+with_proof document options value =
+    with_member proof_name (with_member value_name (v.Text value) options) document
+
+-- the members of a request for verifying
+abbrev pub verify_object : Tree → Tree → Tree → Tree
+verify_object contexts document keys = v.Object (
+    new_member (codes "contexts") contexts
+    ∷ new_member (codes "document") document
+    ∷ new_member (codes "keys") keys ∷ [])
 
 -- the parts of a request for verifying
 pub record VerifyParts : Type 0 where
@@ -111,14 +128,14 @@ verify_body p = statements_request p.contexts (without proof_name p.document)
 abbrev pub verify_options : VerifyParts → Tree
 verify_options p = statements_request p.contexts (taking p.name (options_of p))
 
--- A flat request for verifying: exactly these members, a document that is flat without its proof, and a proof
--- with a value whose options are flat and of the right shape.
+-- A flat request for verifying: exactly these members, a document that is flat without its proof, and
+-- a proof with a value whose options are flat and of the right shape.
 pub record IsVerify (r : Tree) (p : VerifyParts) : Type 0 where
-  pub is : r ≡ v.Object (new_member (codes "contexts") p.contexts ∷ new_member (codes "document") p.document ∷ new_member (codes "keys") p.keys ∷ [])
+  pub is : r ≡ verify_object p.contexts p.document p.keys
   pub document : IsFlat (verify_body p)
-  pub secured : look (at proof_name) p.document ≡ Some p.proof
-  pub named : HasText (at at_context) p.document p.name
-  pub valued : HasText (at value_name) p.proof p.value
+  pub proof_is : look (at proof_name) p.document ≡ Some p.proof
+  pub context_is : HasText (at at_context) p.document p.name
+  pub value_is : HasText (at value_name) p.proof p.value
   pub options : IsFlat (verify_options p)
   pub shape : HasShape (options_of p) p.method
   pub table : IsKeyTable p.keys p.table

@@ -1,4 +1,4 @@
--- What verifying answers. Data Integrity ECDSA Cryptosuites 1.0, 3.6.9 (verify derived proof).
+-- What verifying answers. Data Integrity ECDSA Cryptosuites 1.0, verify derived proof (ecdsa-sd-2023).
 use Rattle.std.specs.Prelude.{◌≡◌, ◌≢◌, ◌≤◌, ◌<◌, ℕ, false, List, [], map, Ok, Some, length, slice_get}
 use Rattle.json_tree.specs.declared.tree.Tree.{Tree}
 use Rattle.key_device.specs.declared.keys.KeyName.{KeyName}
@@ -28,8 +28,13 @@ abbrev pub signature : List ℕ → Signature
 signature bytes = record { bytes = bytes }
 
 -- what a derived value says beside its label map
-abbrev pub shown_by : DerivedValue → DerivedProof
-shown_by value = record { key = key_name value.key; signature = signature value.signature; signatures = map signature value.signatures; indexes = value.indexes }
+abbrev pub proof_of : DerivedValue → DerivedProof
+proof_of value = record {
+  key = key_name value.key;
+  signature = signature value.signature;
+  signatures = map signature value.signatures;
+  indexes = value.indexes;
+}
 
 -- a value for statements that have no blank nodes and are all mandatory
 abbrev pub IsPlainValue : DerivedValue → Type 0
@@ -65,30 +70,42 @@ pub record IsFirstOver (lines : List (List ℕ)) (indexes : List ℕ) (k : ℕ) 
 
 -- there are statements, each index is one's, and the signatures are as many as the others
 pub record IsRight (c : VerifyCase) : Type 0 where
-  pub filled : c.statements ≢ []
+  pub some_statements : c.statements ≢ []
   pub below : AreBelow (lines_of c) c.value.indexes
-  pub counted : IsCounted (lines_of c) (shown_by c.value)
+  pub count : IsCounted (lines_of c) (proof_of c.value)
 
 -- the bytes that the issuer's signature is checked on
 abbrev pub checked_bytes : VerifyCase → List ℕ
-checked_bytes c = sign_data (option_lines_of c) (key_name c.value.key) (lines_at c.value.indexes (lines_of c))
+checked_bytes c =
+    sign_data (option_lines_of c) (key_name c.value.key) (lines_at c.value.indexes (lines_of c))
 
 -- The document does not verify, and this is the cause: the first that applies.
 abbrev pub HasCause : Acceptance → VerifyCase → Cause → Type 0
 HasCause accepts c cause.Nothing = c.statements ≡ []
-HasCause accepts c (cause.Indexes k) = (c.statements ≢ []) × IsFirstOver (lines_of c) c.value.indexes k
-HasCause accepts c (cause.Count signatures statements) = (c.statements ≢ []) × AreBelow (lines_of c) c.value.indexes × (signatures ≡ length c.value.signatures) × (statements ≡ length (other_lines c.value.indexes (lines_of c))) × (signatures ≢ statements)
-HasCause accepts c cause.BaseSignature = IsRight c × ((issuer : KeyName) × (key_for c.parts.table c.parts.method ≡ Some issuer) × (accepts issuer (checked_bytes c) (signature c.value.signature) ≡ false))
+HasCause accepts c (cause.Indexes k) =
+    (c.statements ≢ []) × IsFirstOver (lines_of c) c.value.indexes k
+HasCause accepts c (cause.Count signatures statements) =
+    (c.statements ≢ []) × AreBelow (lines_of c) c.value.indexes
+    × (signatures ≡ length c.value.signatures)
+    × (statements ≡ length (other_lines c.value.indexes (lines_of c)))
+    × (signatures ≢ statements)
+HasCause accepts c cause.BaseSignature =
+    IsRight c
+    × ((issuer : KeyName) × (key_for c.parts.table c.parts.method ≡ Some issuer)
+      × (accepts issuer (checked_bytes c) (signature c.value.signature) ≡ false))
 HasCause accepts c (cause.Labels n) = ⊥
 HasCause accepts c (cause.Expired expires moment) = ⊥
 HasCause accepts c (cause.StatementSignature i) = ⊥
 
 -- The document verifies with the issuer's key of its method.
 pub record IsYes (accepts : Acceptance) (c : VerifyCase) (issuer : KeyName) : Type 0 where
-  pub found : key_for c.parts.table c.parts.method ≡ Some issuer
-  pub good : IsGood accepts issuer (option_lines_of c) (lines_of c) (shown_by c.value)
+  pub key_is : key_for c.parts.table c.parts.method ≡ Some issuer
+  pub good : IsGood accepts issuer (option_lines_of c) (lines_of c) (proof_of c.value)
 
--- What a yes says: for every history of records that covers it, exactly one has the accepted keys, and it
--- holds of the document and its options.
+-- What a yes says: for every history of records that covers it, exactly one has the accepted keys, and
+-- it holds of the document and its options.
 abbrev pub IsSound : VerifyCase → KeyName → Type 0
-IsSound c issuer = (history : List BaseRecord) → IsCovered history issuer (option_lines_of c) (lines_of c) (shown_by c.value) → NamesOne history issuer c.statements c.options no_label (shown_by c.value)
+IsSound c issuer =
+    (history : List BaseRecord)
+    → IsCovered history issuer (option_lines_of c) (lines_of c) (proof_of c.value)
+    → NamesOne history issuer c.statements c.options no_label (proof_of c.value)

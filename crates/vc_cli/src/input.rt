@@ -4,10 +4,11 @@ ghost use Rattle.std.specs.Prelude.{◌≡◌, ℕ, List, IfOk, Err};
 ghost use Rattle.json_tree.specs.declared.tree.TreeFault.TheVariants as fault;
 ghost use Rattle.json_tree.specs.Places.{pointer_of};
 ghost use Rattle.json_tree.specs.Reads.{Reads};
-ghost use Rattle.vc_cli.specs.Replies.{not_whole_line};
-ghost use Rattle.vc_cli.specs.Stages.{IsInputRead, IsTreeRead, IsNoTree};
+ghost use Rattle.vc_cli.specs.ReplyTrees.{line_of, not_whole_tree};
+ghost use Rattle.vc_cli.specs.Internal.Stages.{IsInputRead, IsTreeRead, IsNoTree};
 
 use crate::reply::Reply;
+use crate::reply_lines;
 use json_tree::{Place, Tree, TreeFault};
 use nquads::{Memory, Sequence};
 use std::alloc::Global;
@@ -18,7 +19,7 @@ const INPUT_LIMIT: u64 = 8_388_608;
 
 /// Reads a request to its end. Where there is none that can be answered, the reply says why.
 pub(crate) fn request<S: Source>(alloc: Global, source: &mut S) -> Result<Tree, Reply>
-    ensures { IsInputRead (S.left source.old) (S.faults source.old) (S.faults source.new) result }
+    ensures { IsInputRead (S.means source.old) (S.means source.new) result }
 {
     match vc_io::read_all(alloc, source, INPUT_LIMIT) {
         Ok(bytes) => tree_of(alloc, bytes.as_slice()),
@@ -43,22 +44,19 @@ fn tree_of(alloc: Global, bytes: &[u8]) -> Result<Tree, Reply>
 
 /// The refusal of a number that is not whole.
 fn not_whole(alloc: Global, place: &Place) -> Reply
-    ensures { (bytes : List ℕ) → Reads bytes (Err (fault.NotWhole place.now)) → IsNoTree bytes result }
+    ensures { (bytes : List ℕ) → Reads bytes (Err (fault.NotWhole place.now))
+        → IsNoTree bytes result }
 {
-    match not_whole_line(alloc, place) {
-        Ok(line) => Reply::NotWhole(Sequence::from_vec(line)),
+    match place_line(alloc, place) {
+        Ok(line) => Reply::NotWhole(line),
         Err(Memory) => Reply::Memory,
     }
 }
 
-/// The bytes of that refusal: the place is written as its JSON Pointer.
-fn not_whole_line(alloc: Global, place: &Place) -> Result<Vec<u8>, Memory>
-    ensures { IfOk result (λ line. line.items ≡ not_whole_line (pointer_of place.now.steps)) }
+/// The line of that refusal: the place is written as its JSON Pointer.
+fn place_line(alloc: Global, place: &Place) -> Result<Sequence<u8>, Memory>
+    ensures { IfOk result (λ line. line ≡ line_of (not_whole_tree (pointer_of place.now.steps))) }
 {
-    let pointer = Tree::Text(json_tree::pointer_text(alloc, place)?);
-    let text = json_tree::print(alloc, &pointer)?;
-    let mut line = Vec::from_slice(alloc, b"{\"refused\":{\"name\":\"NotWhole\",\"place\":")?;
-    line.extend_from_slice(text.as_slice())?;
-    line.extend_from_slice(b"}}\n")?;
-    Ok(line)
+    let pointer = json_tree::pointer_text(alloc, place)?;
+    reply_lines::not_whole_line(alloc, &pointer)
 }

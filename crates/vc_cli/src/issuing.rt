@@ -1,24 +1,24 @@
-//! Issuing a base proof (Data Integrity ECDSA Cryptosuites 1.0, 3.6.2) in which every statement is
-//! mandatory.
+//! Issuing a base proof (Data Integrity ECDSA Cryptosuites 1.0, create base proof) in which every
+//! statement is mandatory.
 
-ghost use Rattle.std.specs.Prelude.{◌≡◌, ◌≤◌, ◌<◌, true, false, List, ℕ, map, All, [], IfOk, OnErr, IsErrOf, length};
-ghost use Rattle.base_types.specs.Counts.{HasRisen};
+ghost use Rattle.std.specs.Prelude.{◌≡◌, ◌<◌, true, false, List, ℕ, map, All, [], IfOk, OnErr, IsErrOf, length};
 ghost use Rattle.json_tree.specs.declared.tree.Tree.{Tree as AnyTree};
-ghost use Rattle.key_device.specs.Devices.{IsSecretTold};
+ghost use Rattle.key_device.specs.Devices.{CountsFault, IsSecretTold, MeansSame};
 ghost use Rattle.key_device.specs.declared.device.DeviceError.TheVariants.{Failed, NoKey};
 ghost use Rattle.nquads.specs.Terms.{Statement};
 ghost use Rattle.nquads.specs.Spelling.{text_quad};
 ghost use Rattle.nquads.specs.Texts.{Names};
 ghost use Rattle.proof_cbor.specs.Values.{IsDraft, CanWriteBase};
-ghost use Rattle.stmt_groups.specs.Records.{IsRecord, sign_data as bytes_of};
-ghost use Rattle.vc_cli.specs.Drafts.{IsObject, IsPrintable, finished};
-ghost use Rattle.vc_cli.specs.Requests.{secured};
-ghost use Rattle.vc_cli.specs.Issuing.{meaning, no_label};
-ghost use Rattle.vc_cli.specs.Stages.{Issues, no_signature, whole_value};
-ghost use Rattle.vc_cli.specs.Tasks.{IsIssueTask};
+ghost use Rattle.stmt_groups.specs.Records.{IsRecord};
+ghost use Rattle.vc_cli.specs.Requests.{with_proof};
+ghost use Rattle.vc_cli.specs.Issuing.{no_label, signed_bytes};
+ghost use Rattle.vc_cli.specs.Answers.{Keeps};
+ghost use Rattle.vc_cli.specs.Internal.Drafts.{IsObject, IsPrintable, document_with};
+ghost use Rattle.vc_cli.specs.Internal.Stages.{Issues, no_signature, whole_value};
+ghost use Rattle.vc_cli.specs.Internal.Tasks.{IsIssueTask};
 
-use crate::lines::{base_bytes, lines_of};
-use crate::secured::{Draft, draft_of};
+use crate::draft::{Draft, draft_of};
+use crate::lines::{self, lines_of};
 use crate::tasks::IssueTask;
 use json_tree::Tree;
 use key_device::{DeviceError, KeyDevice, KeyName};
@@ -29,9 +29,9 @@ use stmt_groups::BaseRecord;
 
 /// A document with its base proof, what was signed with it, and the number of its statements.
 #[derive(Drop)]
-pub(crate) struct Issued {
-    pub secured: Tree,
-    pub signed: BaseRecord,
+pub(crate) struct IssuedDocument {
+    pub document: Tree,
+    pub base_record: BaseRecord,
     pub statements: u64,
 }
 
@@ -46,7 +46,7 @@ pub(crate) enum IssueFault {
     Device,
     /// The device does not own the issuer's key.
     NoKey(KeyName),
-    /// Want of memory.
+    /// Out of memory.
     Memory,
 }
 
@@ -69,30 +69,31 @@ struct Fresh {
 
 /// All that an issued document needs but the signature, with the memory for it.
 #[derive(Drop)]
-struct Prepared {
-    record: BaseRecord,
+struct IssueDraft {
+    base_record: BaseRecord,
     bytes: Vec<u8>,
     value: BaseDraft,
-    secured: Draft,
+    document: Draft,
 }
 
 /// Secures the document of a task with a base proof in which every statement is mandatory.
 ///
 /// The device is asked for a secret, for the statement key and, last, for the issuer's signature. All
 /// memory is taken before that, so nothing is refused after it.
+#[tactic(auto, using(crate::proofs::IssuedProofs::keeping))]
 pub(crate) fn issue<D: KeyDevice>(
     alloc: Global,
     task: IssueTask,
     device: &mut D,
-) -> Result<Issued, IssueFault>
+) -> Result<IssuedDocument, IssueFault>
     requires task { (r : AnyTree) × IsIssueTask r task }
     requires document { IsObject task.document × IsPrintable task.document }
     requires options { IsObject task.options × IsPrintable task.options }
     ensures outcome { (r : AnyTree) → IsIssueTask r task
-        → Issues (meaning (D.accepts device.old) (D.owns device.old) (D.signed device.old) (D.next_secret device.old) (D.faults device.old) (D.exact device.old))
-        (meaning (D.accepts device.new) (D.owns device.new) (D.signed device.new) (D.next_secret device.new) (D.faults device.new) (D.exact device.new)) r result }
-    ensures printable { IfOk result (λ made. IsPrintable made.secured) }
-    ensures refused { OnErr result (D.signed device.new ≡ D.signed device.old) }
+        → Issues (D.means device.old) (D.means device.new) r result }
+    ensures printable { IfOk result (λ made. IsPrintable made.document) }
+    ensures unsigned { OnErr result ((D.means device.new).log ≡ (D.means device.old).log) }
+    ensures keeps { Keeps (D.means device.old) (D.means device.new) }
 {
     if task.quads.is_empty() {
         return Err(IssueFault::NoStatements);
@@ -109,9 +110,9 @@ pub(crate) fn issue<D: KeyDevice>(
     let statements = task.quads.len() as u64;
     let draft = prepare(alloc, task, issuer, &fresh)?;
     match device.sign(&issuer, &draft.bytes) {
-        Ok(signature) => Ok(Issued {
-            secured: draft.secured.finish(draft.value.finish(&signature.bytes)),
-            signed: draft.record,
+        Ok(signature) => Ok(IssuedDocument {
+            document: draft.document.finish(draft.value.finish(&signature.bytes)),
+            base_record: draft.base_record,
             statements,
         }),
         Err(DeviceError::NoKey) => Err(IssueFault::NoKey(issuer)),
@@ -121,14 +122,16 @@ pub(crate) fn issue<D: KeyDevice>(
 }
 
 /// A new secret and a new key, which the device owns.
+#[tactic(auto, using(crate::proofs::IssuedProofs::keeping))]
 fn secret_and_key<D: KeyDevice>(device: &mut D) -> Result<Fresh, DeviceError>
-    ensures secret { IfOk result (λ fresh. IsSecretTold (D.next_secret device.old) fresh.secret) }
-    ensures owned { IfOk result (λ fresh. D.owns device.new fresh.key ≡ true) }
-    ensures new { D.exact device.old ≡ true → IfOk result (λ fresh. D.owns device.old fresh.key ≡ false) }
+    ensures secret { IfOk result (λ fresh. IsSecretTold (D.means device.old) fresh.secret) }
+    ensures owned { IfOk result (λ fresh. (D.means device.new).owns fresh.key ≡ true) }
+    ensures new { (D.means device.old).exact ≡ true
+        → IfOk result (λ fresh. (D.means device.old).owns fresh.key ≡ false) }
     ensures no_key { IsErrOf result NoKey → ⊥ }
-    ensures record_stays { D.signed device.new ≡ D.signed device.old }
-    ensures counted { D.faults device.old ≤ D.faults device.new }
-    ensures failed { IsErrOf result Failed → HasRisen (D.faults device.old) (D.faults device.new) }
+    ensures log { (D.means device.new).log ≡ (D.means device.old).log }
+    ensures keeps { Keeps (D.means device.old) (D.means device.new) }
+    ensures failed { IsErrOf result Failed → CountsFault (D.means device.old) (D.means device.new) }
 {
     let secret = device.fresh_secret()?;
     let key = device.fresh_key()?;
@@ -141,41 +144,47 @@ fn prepare(
     task: IssueTask,
     issuer: KeyName,
     fresh: &Fresh,
-) -> Result<Prepared, Memory>
+) -> Result<IssueDraft, Memory>
     requires task { (r : AnyTree) × IsIssueTask r task }
     requires document { IsObject task.document × IsPrintable task.document }
     requires options { IsObject task.options × IsPrintable task.options }
-    ensures secured { IfOk result (λ d. (value : List ℕ) → finished d.secured value ≡ secured task.document task.options value) }
-    ensures printable { IfOk result (λ d. (value : List ℕ) → IsPrintable (finished d.secured value)) }
-    ensures within { IfOk result (λ d. (d.secured.document.at < length d.secured.document.members.items)
-        × (d.secured.options.at < length d.secured.options.members.items)) }
-    ensures issuer { IfOk result (λ d. d.record.issuer ≡ issuer) }
-    ensures key { IfOk result (λ d. d.record.key ≡ fresh.now.key) }
-    ensures record_is { (q o : List Statement) → task.quads ≡ map text_quad q → task.option_quads ≡ map text_quad o
-        → IfOk result (λ d. IsRecord no_label no_label q q o d.record) }
-    ensures bytes { IfOk result (λ d. d.bytes.items ≡ bytes_of d.record.options d.record.key d.record.mandatory) }
-    ensures value { IfOk result (λ d. IsDraft (whole_value fresh.now.key.bytes fresh.now.secret no_signature) d.value) }
-    ensures can_write { IfOk result (λ d. CanWriteBase (whole_value fresh.now.key.bytes fresh.now.secret no_signature)) }
+    ensures proof { IfOk result (λ d. (value : List ℕ)
+        → document_with d.document value ≡ with_proof task.document task.options value) }
+    ensures printable { IfOk result (λ d. (value : List ℕ)
+        → IsPrintable (document_with d.document value)) }
+    ensures within { IfOk result (λ d.
+        (d.document.document.at < length d.document.document.members.items)
+        × (d.document.options.at < length d.document.options.members.items)) }
+    ensures issuer { IfOk result (λ d. d.base_record.issuer ≡ issuer) }
+    ensures key { IfOk result (λ d. d.base_record.key ≡ fresh.now.key) }
+    ensures record_is { (q o : List Statement)
+        → task.quads ≡ map text_quad q → task.option_quads ≡ map text_quad o
+        → IfOk result (λ d. IsRecord no_label no_label q q o d.base_record) }
+    ensures bytes { IfOk result (λ d. d.bytes.items ≡ signed_bytes d.base_record) }
+    ensures value { IfOk result (λ d.
+        IsDraft (whole_value fresh.now.key.bytes fresh.now.secret no_signature) d.value) }
+    ensures can_write { IfOk result (λ d.
+        CanWriteBase (whole_value fresh.now.key.bytes fresh.now.secret no_signature)) }
 {
-    let record = record(alloc, &task.quads, &task.option_quads, issuer, fresh.key)?;
-    let bytes = base_bytes(
+    let base_record = record(alloc, &task.quads, &task.option_quads, issuer, fresh.key)?;
+    let bytes = lines::signed_bytes(
         alloc,
-        record.options.as_slice(),
-        &record.key,
-        record.mandatory.as_slice(),
+        base_record.options.as_slice(),
+        &base_record.key,
+        base_record.mandatory.as_slice(),
     )?;
     let value = value(alloc, fresh)?;
-    let secured = draft_of(alloc, task.document, task.options)?;
-    Ok(Prepared {
-        record,
+    let document = draft_of(alloc, task.document, task.options)?;
+    Ok(IssueDraft {
+        base_record,
         bytes,
         value,
-        secured,
+        document,
     })
 }
 
 /// What is signed where every statement is mandatory.
-#[tactic(auto, using(crate::proofs::IssueFacts::draft_steps))]
+#[tactic(auto, using(crate::proofs::IssuedProofs::draft_steps))]
 fn record(
     alloc: Global,
     quads: &TextQuads,
@@ -187,7 +196,8 @@ fn record(
     requires option_quads { All (Names []) option_quads.now }
     ensures issuer { IfOk result (λ made. made.issuer ≡ issuer) }
     ensures key { IfOk result (λ made. made.key ≡ key) }
-    ensures is { (q o : List Statement) → quads.now ≡ map text_quad q → option_quads.now ≡ map text_quad o
+    ensures is { (q o : List Statement)
+        → quads.now ≡ map text_quad q → option_quads.now ≡ map text_quad o
         → IfOk result (λ made. IsRecord no_label no_label q q o made) }
 {
     let mandatory = lines_of(alloc, quads)?;
@@ -202,10 +212,12 @@ fn record(
 }
 
 /// The draft of a proof value in which every statement is mandatory.
-#[tactic(auto, using(crate::proofs::IssueFacts::draft_steps), unfolding(crate::specs::Stages::no_signature))]
+#[tactic(auto, using(crate::proofs::IssuedProofs::draft_steps), unfolding(crate::specs::Internal::Stages::no_signature))]
 fn value(alloc: Global, fresh: &Fresh) -> Result<BaseDraft, Memory>
-    ensures value { IfOk result (λ d. IsDraft (whole_value fresh.now.key.bytes fresh.now.secret no_signature) d) }
-    ensures can_write { IfOk result (λ d. CanWriteBase (whole_value fresh.now.key.bytes fresh.now.secret no_signature)) }
+    ensures value { IfOk result (λ d.
+        IsDraft (whole_value fresh.now.key.bytes fresh.now.secret no_signature) d) }
+    ensures can_write { IfOk result (λ d.
+        CanWriteBase (whole_value fresh.now.key.bytes fresh.now.secret no_signature)) }
 {
     let mut pointers = Sequence::new(alloc);
     pointers.push(Text::new(alloc))?;

@@ -1,7 +1,9 @@
+//! Key tables: keys as hexadecimal digits.
+
 ghost use Rattle.std.specs.Prelude.{◌≡◌, ◌↔◌, List, ℕ, IfOk, IfSome, IsErrOf, IsNone, IsTrue};
 ghost use Rattle.hex.specs.Hex.{encode_lower};
 ghost use Rattle.key_device.specs.declared.table.KeyEntry.{KeyEntry as AnyEntry};
-ghost use Rattle.vc_cli.specs.Parts.{AreDigits};
+ghost use Rattle.vc_cli.specs.Internal.Parts.{AreDigits};
 ghost use Rattle.vc_cli.specs.Requests.{IsKeyEntry, IsKeyTable};
 
 use hex::FromHex;
@@ -49,7 +51,8 @@ fn is_written(bytes: &[u8; 35], digits: &str) -> bool
 #[tactic(auto, using(crate::proofs::Tables::entries))]
 fn entry_of(alloc: Global, member: &Member) -> Result<KeyEntry, FlatFault>
     ensures ok { IfOk result (λ e. IsKeyEntry member.now e) }
-    ensures not_built { IsErrOf result FlatFault.NotBuilt → (e : AnyEntry) → IsKeyEntry member.now e → ⊥ }
+    ensures not_built { IsErrOf result FlatFault.NotBuilt
+        → (e : AnyEntry) → IsKeyEntry member.now e → ⊥ }
 {
     let Some(digits) = member.value.as_text() else {
         return Err(FlatFault::NotBuilt);
@@ -69,7 +72,8 @@ fn entry_of(alloc: Global, member: &Member) -> Result<KeyEntry, FlatFault>
 #[tactic(auto, using(crate::proofs::Tables::turns))]
 pub(crate) fn key_table(alloc: Global, keys: &Tree) -> Result<KeyTable, FlatFault>
     ensures ok { IfOk result (λ table. IsKeyTable keys.now table.entries) }
-    ensures not_built { IsErrOf result FlatFault.NotBuilt → (table : List AnyEntry) → IsKeyTable keys.now table → ⊥ }
+    ensures not_built { IsErrOf result FlatFault.NotBuilt
+        → (table : List AnyEntry) → IsKeyTable keys.now table → ⊥ }
 {
     let Some(members) = keys.as_object() else {
         return Err(FlatFault::NotBuilt);

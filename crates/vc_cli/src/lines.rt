@@ -7,7 +7,7 @@ ghost use Rattle.nquads.specs.Terms.{Statement};
 ghost use Rattle.nquads.specs.Spelling.{text_quad};
 ghost use Rattle.nquads.specs.Lines.{canonical_lines, line};
 ghost use Rattle.nquads.specs.Texts.{Names};
-ghost use Rattle.stmt_groups.specs.Records.{sign_data as bytes_of};
+ghost use Rattle.stmt_groups.specs.Records.{sign_data};
 ghost use Rattle.vc_cli.specs.Issuing.{no_label};
 
 use key_device::KeyName;
@@ -17,18 +17,20 @@ use std::alloc::Global;
 /// The canonical lines of a dataset without blank nodes (RDF Dataset Canonicalization, 4.4).
 pub(crate) fn lines_of(alloc: Global, quads: &TextQuads) -> Result<Sequence<Text>, Memory>
     requires { All (Names []) quads.now }
-    ensures { (q : List Statement) → quads.now ≡ map text_quad q → IfOk result (λ lines. lines ≡ canonical_lines no_label q) }
+    ensures { (q : List Statement) → quads.now ≡ map text_quad q
+        → IfOk result (λ lines. lines ≡ canonical_lines no_label q) }
 {
-    let mut lines = written(alloc, quads.as_slice())?;
+    let mut lines = each_line(alloc, quads.as_slice())?;
     lines.sort_unstable();
     lines.dedup();
     Ok(Sequence::from_vec(lines))
 }
 
 /// The line of each statement, in their order.
-fn written(alloc: Global, quads: &[TextQuad]) -> Result<Vec<Text>, Memory>
+fn each_line(alloc: Global, quads: &[TextQuad]) -> Result<Vec<Text>, Memory>
     requires { All (Names []) quads.now }
-    ensures { (q : List Statement) → quads.now ≡ map text_quad q → IfOk result (λ lines. lines.items ≡ map (line no_label) q) }
+    ensures { (q : List Statement) → quads.now ≡ map text_quad q
+        → IfOk result (λ lines. lines.items ≡ map (line no_label) q) }
 {
     let labels = TextLabels::new(alloc);
     let mut lines = Vec::new(alloc);
@@ -50,15 +52,15 @@ fn digest_of(alloc: Global, lines: &[Text]) -> Result<[u8; 32], Memory>
     Ok(digest_mac::sha256(&bytes))
 }
 
-/// The bytes that an issuer key signs (Data Integrity ECDSA Cryptosuites 1.0, 3.4.11): the digest of the
-/// options' lines, the statement key and the digest of the mandatory lines.
-pub(crate) fn base_bytes(
+/// The bytes that an issuer key signs (Data Integrity ECDSA Cryptosuites 1.0, serializeSignData): the
+/// digest of the options' lines, the statement key and the digest of the mandatory lines.
+pub(crate) fn signed_bytes(
     alloc: Global,
     options: &[Text],
     key: &KeyName,
     mandatory: &[Text],
 ) -> Result<Vec<u8>, Memory>
-    ensures { IfOk result (λ bytes. bytes.items ≡ bytes_of options.now key.now mandatory.now) }
+    ensures { IfOk result (λ bytes. bytes.items ≡ sign_data options.now key.now mandatory.now) }
 {
     let options = digest_of(alloc, options)?;
     let mandatory = digest_of(alloc, mandatory)?;

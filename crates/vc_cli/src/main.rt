@@ -1,36 +1,36 @@
 //! The program `vc_cli`: it answers one request from standard input to standard output.
 //!
-//! `run` is the program over any source and sink, and its contract says which bytes it writes and
-//! which status it ends with. `main` hands it the words, standard input and standard output.
+//! `run` is the program over any source, sink and key device, and its contract says which bytes it writes
+//! and which status it ends with. `main` hands it the words, standard input and standard output, and a
+//! ledger that is made anew in each run of a command that signs or checks.
 #![tactic(auto)]
 
 mod commands;
+mod draft;
 mod input;
 mod issuing;
 mod keys;
 mod lines;
 mod options;
 mod reply;
+mod reply_lines;
 mod requests;
-#[cfg(test)]
-mod role_tests;
 mod run;
-mod secured;
 mod status;
 mod tasks;
 #[cfg(test)]
 mod tests;
 mod verifying;
-mod written;
 
 use key_device::{KeyName, LedgerDevice};
 use nquads::{Memory, Text};
 pub use reply::Reply;
 use run::deliver;
-pub use run::run;
+pub use run::{run, run_alone, uses_device};
 pub use status::Status;
 use std::alloc::Global;
 use std::env;
+use std::io;
 use std::process::ExitCode;
 use std::rt::Env;
 use vc_io::{ReaderSource, Sink, Source, WriterSink};
@@ -42,30 +42,43 @@ fn main(rt: HostRuntime) -> ExitCode {
         Ok(words) => answer(rt.alloc(), words.as_slice(), &mut source, &mut sink),
         Err(Memory) => deliver(&Reply::Memory, &mut sink),
     };
+    if status == Status::WriteFault {
+        // Where this fails too, nothing is left to say it with: the status tells.
+        drop(eprintln!(rt; "vc_cli: the reply could not be written"));
+    }
     ExitCode::from(status as u8)
 }
 
-/// The answer over a device that owns the one key of 35 zero bytes; where there is no memory for it, that.
+/// The answer, over a ledger that owns the one key of 35 zero bytes where the words name a command that
+/// uses a device; where there is no memory for the ledger, that.
 fn answer<S: Source, K: Sink>(
     alloc: Global,
     words: &[Text],
     source: &mut S,
     sink: &mut K,
 ) -> Status {
+    if !uses_device(words) {
+        return run_alone(alloc, words, source, sink);
+    }
     match LedgerDevice::new(alloc, &[KeyName { bytes: [0; 35] }]) {
         Ok(mut device) => run(alloc, words, source, sink, &mut device),
         Err(Memory) => deliver(&Reply::Memory, sink),
     }
 }
 
-/// The words behind the program's name; none where they cannot be had, as where one is not UTF-8.
+/// The words behind the program's name; none where one is not UTF-8, which no command is.
 fn words<R: Env + AllocGlobal>(rt: &R) -> Result<Vec<Text>, Memory> {
     let mut words = Vec::new(rt.alloc());
-    let Ok(arguments) = env::args(rt) else {
-        return Ok(words);
-    };
-    for word in arguments.skip(1) {
-        words.push(Text::from_string(word))?;
+    match env::args(rt) {
+        Ok(arguments) => {
+            for word in arguments.skip(1) {
+                words.push(Text::from_string(word))?;
+            }
+            Ok(words)
+        }
+        Err(error) => match error.kind() {
+            io::ErrorKind::OutOfMemory => Err(Memory),
+            _ => Ok(words),
+        },
     }
-    Ok(words)
 }

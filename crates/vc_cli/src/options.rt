@@ -1,9 +1,11 @@
+//! Members of documents and of proof options (Data Integrity 1.0, proofs).
+
 ghost use Rattle.std.specs.Prelude.{◌≡◌, true};
 ghost use Rattle.std.specs.Option.{option_copied};
 ghost use Rattle.json_tree.specs.Places.{look};
 ghost use Rattle.json_tree.specs.Trees.{is_lawful};
 ghost use Rattle.vc_cli.specs.Requests.{at};
-ghost use Rattle.vc_cli.specs.Parts.{has_form, has_text, lacks, method_in, text_under};
+ghost use Rattle.vc_cli.specs.Internal.Parts.{has_form, has_text, lacks, method_in, text_under};
 
 use json_tree::{Text, Tree, member};
 

@@ -1,3 +1,5 @@
+//! What a run replies: its bytes and its status.
+
 ghost use Rattle.std.specs.Prelude.{◌≡◌};
 ghost use Rattle.vc_cli.specs.Replies.{bytes_of, status_of};
 
@@ -31,16 +33,16 @@ pub enum Reply {
     /// The proof value is none, and why.
     ProofValue(Sequence<u8>),
     /// The document with a base proof.
-    Issued(Sequence<u8>),
+    Document(Sequence<u8>),
     /// The document verifies.
-    Verified(Sequence<u8>),
+    Yes(Sequence<u8>),
     /// The document does not verify, and why.
-    Rejected(Sequence<u8>),
+    No(Sequence<u8>),
     /// The key device failed.
     DeviceFault,
     /// The source failed.
     ReadFault,
-    /// Want of memory.
+    /// Out of memory.
     Memory,
 }
 
@@ -59,8 +61,8 @@ impl Reply {
             Reply::NotBuilt => b"{\"refused\":{\"name\":\"NotBuilt\"}}\n",
             Reply::NoStatements => b"{\"refused\":{\"name\":\"NoStatements\"}}\n",
             Reply::UnknownMethod(line) | Reply::NoKey(line) => line.as_slice(),
-            Reply::ProofValue(line) | Reply::Issued(line) => line.as_slice(),
-            Reply::Verified(line) | Reply::Rejected(line) => line.as_slice(),
+            Reply::ProofValue(line) | Reply::Document(line) => line.as_slice(),
+            Reply::Yes(line) | Reply::No(line) => line.as_slice(),
             Reply::DeviceFault => b"{\"refused\":{\"name\":\"DeviceFault\"}}\n",
             Reply::ReadFault => b"{\"refused\":{\"name\":\"ReadFault\"}}\n",
             Reply::Memory => b"{\"refused\":{\"name\":\"Memory\"}}\n",
@@ -72,8 +74,8 @@ impl Reply {
         ensures { result ≡ status_of self.now }
     {
         match self {
-            Reply::Statements(_) | Reply::Issued(_) | Reply::Verified(_) => Status::Done,
-            Reply::Rejected(_) => Status::No,
+            Reply::Statements(_) | Reply::Document(_) | Reply::Yes(_) => Status::Done,
+            Reply::No(_) => Status::No,
             Reply::Usage => Status::Usage,
             Reply::TooLong | Reply::NotJson | Reply::TreeTooDeep => Status::Input,
             Reply::NotWhole(_) | Reply::NotBuilt | Reply::NoStatements => Status::Input,

@@ -1,12 +1,14 @@
+//! Taking apart requests for issuing and for verifying.
+
 ghost use Rattle.std.specs.Prelude.{◌≡◌, ◌↔◌, true, [], Some, IfOk, IfSome, IsErrOf, IsTrue, option_map};
 ghost use Rattle.std.specs.Str.{bytes_eq};
 ghost use Rattle.json_tree.specs.declared.tree.Tree.{Tree as AnyTree};
 ghost use Rattle.json_tree.specs.declared.tree.Tree.TheVariants as v;
 ghost use Rattle.json_tree.specs.Trees.{is_in_range, is_lawful};
-ghost use Rattle.vc_cli.specs.Drafts.{IsObject, IsPrintable};
-ghost use Rattle.vc_cli.specs.Parts.{IsIssueRead, five_of, issue_names, issue_object, proof_parts, three_of};
-ghost use Rattle.vc_cli.specs.Requests.{IsFlatIssue, IsFlatVerify, whole_document};
-ghost use Rattle.vc_cli.specs.Tasks.{IsIssueTask, IsVerifyTask};
+ghost use Rattle.vc_cli.specs.Internal.Drafts.{IsObject, IsPrintable};
+ghost use Rattle.vc_cli.specs.Internal.Parts.{IsIssueRead, five_of, issue_names, proof_parts, three_of};
+ghost use Rattle.vc_cli.specs.Requests.{IsFlatIssue, IsFlatVerify, issue_object, whole_document};
+ghost use Rattle.vc_cli.specs.Internal.Tasks.{IsIssueTask, IsVerifyTask};
 
 use crate::keys::key_table;
 use crate::options::{lacks, method_of, text_at, value_at};
@@ -54,8 +56,11 @@ fn is_named(member: &Member, name: &str) -> bool
 /// The members of a request for issuing, where it has these and no other.
 fn issue_members(request: &Tree) -> Option<IssueMembers<'_>>
     requires { is_lawful request.now ≡ true }
-    ensures five { option_map (λ m. (m.contexts.now, m.document.now, m.keys.now, m.mandatory.now, m.options.now)) result ≡ five_of request.now }
-    ensures lawful { IfSome result (λ m. (is_lawful m.contexts.now ≡ true) × (is_lawful m.document.now ≡ true) × (is_lawful m.options.now ≡ true)) }
+    ensures five { option_map (λ m.
+        (m.contexts.now, m.document.now, m.keys.now, m.mandatory.now, m.options.now)) result
+        ≡ five_of request.now }
+    ensures lawful { IfSome result (λ m. (is_lawful m.contexts.now ≡ true)
+        × (is_lawful m.document.now ≡ true) × (is_lawful m.options.now ≡ true)) }
 {
     match request.as_object()? {
         [contexts, document, keys, mandatory, options] => {
@@ -83,8 +88,10 @@ fn issue_members(request: &Tree) -> Option<IssueMembers<'_>>
 /// The members of a request for verifying, where it has these and no other.
 fn verify_members(request: &Tree) -> Option<VerifyMembers<'_>>
     requires { is_lawful request.now ≡ true }
-    ensures three { option_map (λ m. (m.contexts.now, m.document.now, m.keys.now)) result ≡ three_of request.now }
-    ensures lawful { IfSome result (λ m. (is_lawful m.contexts.now ≡ true) × (is_lawful m.document.now ≡ true)) }
+    ensures three { option_map (λ m. (m.contexts.now, m.document.now, m.keys.now)) result
+        ≡ three_of request.now }
+    ensures lawful { IfSome result (λ m. (is_lawful m.contexts.now ≡ true)
+        × (is_lawful m.document.now ≡ true)) }
 {
     match request.as_object()? {
         [contexts, document, keys] => {
@@ -133,7 +140,8 @@ fn is_empty_text(tree: &Tree) -> bool
 fn issue_names<'a>(document: &'a Tree, options: &'a Tree) -> Option<(&'a Text, &'a Text)>
     requires document { is_lawful document.now ≡ true }
     requires options { is_lawful options.now ≡ true }
-    ensures { option_map (λ p. (p.0.now, p.1.now)) result ≡ issue_names document.now options.now }
+    ensures { option_map (λ p. (p.0.now, p.1.now)) result
+        ≡ issue_names document.now options.now }
 {
     if lacks(document, "proof") && lacks(options, "proofValue") {
         let name = text_at(document, "@context")?;
@@ -176,8 +184,9 @@ fn read_issue(alloc: Global, request: &Tree) -> Result<IssueRead, FlatFault>
 }
 
 /// The document and the options, taken out of a request for issuing.
-fn taken_apart(request: Tree) -> Option<(Tree, Tree)>
-    ensures { (c d k m o : AnyTree) → request ≡ issue_object c d k m o → result ≡ Some (d, o) }
+fn take_apart(request: Tree) -> Option<(Tree, Tree)>
+    ensures { (c d k m o : AnyTree) → request ≡ issue_object c d k m o
+        → result ≡ Some (d, o) }
 {
     let Tree::Object(mut members) = request else {
         return None;
@@ -205,7 +214,7 @@ pub(crate) fn issue_task(alloc: Global, request: Tree) -> Result<IssueTask, Flat
     ensures not_built { IsErrOf result FlatFault.NotBuilt → IsFlatIssue request → ⊥ }
 {
     match read_issue(alloc, &request) {
-        Ok(read) => match taken_apart(request) {
+        Ok(read) => match take_apart(request) {
             Some((document, options)) => Ok(IssueTask {
                 document,
                 options,
@@ -233,7 +242,8 @@ struct ProofParts<'a> {
 #[tactic(auto, using(crate::proofs::Looks::found_lawful))]
 fn proof_parts(document: &Tree) -> Option<ProofParts<'_>>
     requires { is_lawful document.now ≡ true }
-    ensures parts { option_map (λ p. (p.proof.now, p.name.now, p.method.now, p.value.now)) result ≡ proof_parts document.now }
+    ensures parts { option_map (λ p. (p.proof.now, p.name.now, p.method.now, p.value.now)) result
+        ≡ proof_parts document.now }
     ensures lawful { IfSome result (λ p. is_lawful p.proof.now ≡ true) }
 {
     let proof = value_at(document, "proof")?;

@@ -1,9 +1,10 @@
-ghost use Rattle.std.specs.Prelude.{◌≡◌, ◌↔◌, [], ◌∷◌, IsTrue};
-ghost use Rattle.key_device.specs.Devices.{AcceptsSame, OwnsSame};
+//! The program over any source, sink and device: the reply to the words, and its delivery.
+
+ghost use Rattle.std.specs.Prelude.{◌≡◌, ◌↔◌, ◌⊎◌, [], ◌∷◌, IsTrue};
+ghost use Rattle.key_device.specs.Devices.{DeviceMeaning, MeansSame};
 ghost use Rattle.vc_cli.specs.declared.reply.Reply.{Reply as AnyReply};
-ghost use Rattle.vc_cli.specs.Answers.{Answers, Delivers, HasSoundYes, IsCommand, IsIssueCommand, IsVerifyCommand, Signs};
-ghost use Rattle.vc_cli.specs.Issuing.{meaning};
-ghost use Rattle.vc_cli.specs.Stages.{HasSoundReply};
+ghost use Rattle.vc_cli.specs.Answers.{Answers, Delivers, HasSoundYes, IsCommand, IsIssueCommand, IsVerifyCommand, Keeps, Signs};
+ghost use Rattle.vc_cli.specs.Internal.Stages.{HasSoundReply};
 
 use crate::commands;
 use crate::reply::Reply;
@@ -19,7 +20,7 @@ use vc_io::{Sink, Source};
 /// a request to its end: the first writes the statements of its document as canonical N-Quads, the second
 /// secures the document with a base proof in which every statement is mandatory, and the third checks a
 /// derived proof of such a document. A refusal is one line of JSON.
-#[tactic(auto, using(crate::proofs::RunFacts::word_steps))]
+#[tactic(auto, using(crate::proofs::CommandWords::word_steps))]
 pub fn run<S: Source, K: Sink, D: KeyDevice>(
     alloc: Global,
     words: &[Text],
@@ -29,54 +30,94 @@ pub fn run<S: Source, K: Sink, D: KeyDevice>(
 ) -> Status
     // One reply answers the words and the input, it was delivered, and nothing is signed but what it says.
     ensures answer { (reply : AnyReply)
-        × Answers words.now (S.left source.old) (S.faults source.old) (S.faults source.new)
-        (meaning (D.accepts device.old) (D.owns device.old) (D.signed device.old) (D.next_secret device.old) (D.faults device.old) (D.exact device.old))
-        (meaning (D.accepts device.new) (D.owns device.new) (D.signed device.new) (D.next_secret device.new) (D.faults device.new) (D.exact device.new)) reply
-        × Delivers reply result (K.written sink.old) (K.written sink.new) (K.faults sink.old) (K.faults sink.new)
-        × Signs (S.left source.old)
-        (meaning (D.accepts device.old) (D.owns device.old) (D.signed device.old) (D.next_secret device.old) (D.faults device.old) (D.exact device.old))
-        (meaning (D.accepts device.new) (D.owns device.new) (D.signed device.new) (D.next_secret device.new) (D.faults device.new) (D.exact device.new)) reply }
+        × Answers words.now (S.means source.old) (S.means source.new)
+            (D.means device.old) (D.means device.new) reply
+        × Delivers reply result (K.means sink.old) (K.means sink.new)
+        × Signs (S.means source.old) (D.means device.old) (D.means device.new) reply }
     // Under other words nothing is read.
     ensures unread { (IsCommand words.now → ⊥) → source.new ≡ source.old }
-    // Only issuing and verifying use the device, and verifying changes nothing that the device means.
-    ensures unused { (IsIssueCommand words.now → ⊥) → (IsVerifyCommand words.now → ⊥) → device.new ≡ device.old }
-    ensures only_checks { IsVerifyCommand words.now → AcceptsSame (D.accepts device.old) (D.accepts device.new)
-        × OwnsSame (D.owns device.old) (D.owns device.new) × (D.signed device.new ≡ D.signed device.old) }
+    // Only issuing and verifying use the device, and verifying changes nothing that the device means but
+    // its next secret and its count of faults.
+    ensures unused { (IsIssueCommand words.now → ⊥) → (IsVerifyCommand words.now → ⊥)
+        → device.new ≡ device.old }
+    ensures only_checks { IsVerifyCommand words.now
+        → MeansSame (D.means device.old) (D.means device.new) }
+    // No command takes back what the device accepts or owns.
+    ensures keeps { Keeps (D.means device.old) (D.means device.new) }
     // A yes names one record of every history that covers it, which holds of the document and its options.
-    ensures sound { IsVerifyCommand words.now → result ≡ Status.Done → HasSoundYes (S.left source.old) (D.accepts device.old) }
+    ensures sound { IsVerifyCommand words.now → result ≡ Status.Done
+        → HasSoundYes (S.means source.old) (D.means device.old).accepts }
 {
     let reply = reply_to(alloc, words, source, device);
     deliver(&reply, sink)
 }
 
+/// Answers words that name no command which uses a device, without one.
+pub fn run_alone<S: Source, K: Sink>(
+    alloc: Global,
+    words: &[Text],
+    source: &mut S,
+    sink: &mut K,
+) -> Status
+    // As `run` answers them, over any device, which stays as it is.
+    ensures answer { (device : DeviceMeaning)
+        → (IsIssueCommand words.now → ⊥) → (IsVerifyCommand words.now → ⊥)
+        → (reply : AnyReply)
+        × Answers words.now (S.means source.old) (S.means source.new) device device reply
+        × Delivers reply result (K.means sink.old) (K.means sink.new) }
+    ensures unread { (IsCommand words.now → ⊥) → source.new ≡ source.old }
+{
+    let reply = reply_alone(alloc, words, source);
+    deliver(&reply, sink)
+}
+
+/// Whether the words name a command that uses a device.
+pub fn uses_device(words: &[Text]) -> bool
+    ensures { IsTrue result ↔ (IsIssueCommand words.now ⊎ IsVerifyCommand words.now) }
+{
+    is_word(words, "issue") || is_word(words, "verify")
+}
+
 /// The reply to a command.
-#[tactic(auto, using(crate::proofs::RunFacts::word_steps))]
+#[tactic(auto, using(crate::proofs::CommandWords::word_steps))]
 fn reply_to<S: Source, D: KeyDevice>(
     alloc: Global,
     words: &[Text],
     source: &mut S,
     device: &mut D,
 ) -> Reply
-    ensures answer { Answers words.now (S.left source.old) (S.faults source.old) (S.faults source.new)
-        (meaning (D.accepts device.old) (D.owns device.old) (D.signed device.old) (D.next_secret device.old) (D.faults device.old) (D.exact device.old))
-        (meaning (D.accepts device.new) (D.owns device.new) (D.signed device.new) (D.next_secret device.new) (D.faults device.new) (D.exact device.new)) result }
-    ensures signs { Signs (S.left source.old)
-        (meaning (D.accepts device.old) (D.owns device.old) (D.signed device.old) (D.next_secret device.old) (D.faults device.old) (D.exact device.old))
-        (meaning (D.accepts device.new) (D.owns device.new) (D.signed device.new) (D.next_secret device.new) (D.faults device.new) (D.exact device.new)) result }
+    ensures answer { Answers words.now (S.means source.old) (S.means source.new)
+        (D.means device.old) (D.means device.new) result }
+    ensures signs { Signs (S.means source.old) (D.means device.old) (D.means device.new) result }
     ensures unread { (IsCommand words.now → ⊥) → source.new ≡ source.old }
-    ensures unused { (IsIssueCommand words.now → ⊥) → (IsVerifyCommand words.now → ⊥) → device.new ≡ device.old }
-    ensures only_checks { IsVerifyCommand words.now → AcceptsSame (D.accepts device.old) (D.accepts device.new)
-        × OwnsSame (D.owns device.old) (D.owns device.new) × (D.signed device.new ≡ D.signed device.old) }
-    ensures sound { IsVerifyCommand words.now → HasSoundReply (S.left source.old) (D.accepts device.old) result }
+    ensures unused { (IsIssueCommand words.now → ⊥) → (IsVerifyCommand words.now → ⊥)
+        → device.new ≡ device.old }
+    ensures only_checks { IsVerifyCommand words.now
+        → MeansSame (D.means device.old) (D.means device.new) }
+    ensures keeps { Keeps (D.means device.old) (D.means device.new) }
+    ensures sound { IsVerifyCommand words.now
+        → HasSoundReply (S.means source.old) (D.means device.old).accepts result }
 {
-    if is_word(words, "statements") {
-        return commands::statements(alloc, source);
-    }
     if is_word(words, "issue") {
         return commands::issue(alloc, source, device);
     }
     if is_word(words, "verify") {
         return commands::verify(alloc, source, device);
+    }
+    reply_alone(alloc, words, source)
+}
+
+/// The reply to words that name neither issuing nor verifying.
+#[tactic(auto, using(crate::proofs::CommandWords::word_steps))]
+fn reply_alone<S: Source>(alloc: Global, words: &[Text], source: &mut S) -> Reply
+    ensures answer { (device : DeviceMeaning)
+        → (IsIssueCommand words.now → ⊥) → (IsVerifyCommand words.now → ⊥)
+        → Answers words.now (S.means source.old) (S.means source.new) device device result }
+    ensures signs { (device : DeviceMeaning) → Signs (S.means source.old) device device result }
+    ensures unread { (IsCommand words.now → ⊥) → source.new ≡ source.old }
+{
+    if is_word(words, "statements") {
+        return commands::statements(alloc, source);
     }
     Reply::Usage
 }
@@ -93,7 +134,7 @@ fn is_word(words: &[Text], text: &str) -> bool
 
 /// Writes a reply, and says how the run ended. It takes no memory.
 pub(crate) fn deliver<K: Sink>(reply: &Reply, sink: &mut K) -> Status
-    ensures { Delivers reply.now result (K.written sink.old) (K.written sink.new) (K.faults sink.old) (K.faults sink.new) }
+    ensures { Delivers reply.now result (K.means sink.old) (K.means sink.new) }
 {
     match vc_io::write_all(sink, reply.as_bytes()) {
         Ok(()) => reply.status(),

@@ -1,3 +1,5 @@
+//! How a run ends, as the program's exit status.
+
 /// How a run ended; the number is the program's exit status.
 #[derive(Clone, Copy, Debug, PartialEq, Eq)]
 pub enum Status {
@@ -17,6 +19,6 @@ pub enum Status {
     WriteFault = 6,
     /// The key device failed.
     DeviceFault = 7,
-    /// Want of memory.
+    /// Out of memory.
     Memory = 8,
 }

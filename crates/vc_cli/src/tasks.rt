@@ -1,3 +1,5 @@
+//! What flat requests for issuing and for verifying ask for.
+
 use json_tree::Tree;
 use key_device::KeyTable;
 use nquads::{Text, TextQuads};

@@ -1,16 +1,16 @@
-//! Verifying a derived proof (Data Integrity ECDSA Cryptosuites 1.0, 3.6.9) in which every statement is
-//! mandatory.
+//! Verifying a derived proof (Data Integrity ECDSA Cryptosuites 1.0, verify derived proof) in which every
+//! statement is mandatory.
 
 ghost use Rattle.std.specs.Prelude.{◌≡◌, ◌↔◌, ◌≤◌, true, List, [], All, map, IfOk, IsTrue, length, nat_le};
 ghost use Rattle.std.specs.List.{position};
 ghost use Rattle.base_types.specs.Order.{rise};
 ghost use Rattle.json_tree.specs.declared.tree.Tree.{Tree as AnyTree};
-ghost use Rattle.key_device.specs.Devices.{AcceptsSame, OwnsSame};
-ghost use Rattle.vc_cli.specs.Stages.{IsCauseOf, ReadsPlain, Verifies};
-ghost use Rattle.vc_cli.specs.Tasks.{IsVerifyTask};
+ghost use Rattle.key_device.specs.Devices.{MeansSame};
+ghost use Rattle.vc_cli.specs.Internal.Stages.{IsCauseOf, ReadsPlain, Verifies};
+ghost use Rattle.vc_cli.specs.Internal.Tasks.{IsVerifyTask};
 ghost use Rattle.vc_cli.specs.Verifying.{IsPlainValue};
 
-use crate::lines::{base_bytes, lines_of};
+use crate::lines::{lines_of, signed_bytes};
 use crate::tasks::VerifyTask;
 use key_device::{DeviceError, KeyDevice, KeyName, Signature};
 use nquads::{Memory, Sequence, Text};
@@ -21,7 +21,7 @@ use stmt_groups::Cause;
 /// What a document says that verifies: the issuer's key, the statement key, the places of the mandatory
 /// statements, and the number of statements.
 #[derive(Drop)]
-pub(crate) struct Accepted {
+pub(crate) struct AcceptedProof {
     pub issuer: KeyName,
     pub key: KeyName,
     pub mandatory: Sequence<u64>,
@@ -31,7 +31,7 @@ pub(crate) struct Accepted {
 /// Whether a document verifies.
 #[derive(Drop)]
 pub(crate) enum Verdict {
-    Yes(Accepted),
+    Yes(AcceptedProof),
     No(Cause),
 }
 
@@ -46,7 +46,7 @@ pub(crate) enum VerifyFault {
     UnknownMethod(Text),
     /// The device failed.
     Device,
-    /// Want of memory.
+    /// Out of memory.
     Memory,
 }
 
@@ -68,10 +68,9 @@ pub(crate) fn verify<D: KeyDevice>(
 ) -> Result<Verdict, VerifyFault>
     requires { (r : AnyTree) × IsVerifyTask r task }
     ensures outcome { (r : AnyTree) → IsVerifyTask r task
-        → Verifies (D.accepts device.old) (D.faults device.old) (D.faults device.new) r result }
-    ensures acceptance { AcceptsSame (D.accepts device.old) (D.accepts device.new) }
-    ensures ownership { OwnsSame (D.owns device.old) (D.owns device.new) }
-    ensures record_stays { D.signed device.new ≡ D.signed device.old }
+        → Verifies (D.means device.old) (D.means device.new) r result }
+    ensures stays { MeansSame (D.means device.old) (D.means device.new) }
+    ensures count { (D.means device.old).faults ≤ (D.means device.new).faults }
 {
     let value = plain_value(alloc, task.value.as_str())?;
     let lines = lines_of(alloc, &task.quads)?;
@@ -86,9 +85,9 @@ pub(crate) fn verify<D: KeyDevice>(
     let signature = Signature {
         bytes: value.signature,
     };
-    let bytes = base_bytes(alloc, option_lines.as_slice(), &key, lines.as_slice())?;
+    let bytes = signed_bytes(alloc, option_lines.as_slice(), &key, lines.as_slice())?;
     match device.check(&issuer, &bytes, &signature) {
-        Ok(true) => Ok(Verdict::Yes(Accepted {
+        Ok(true) => Ok(Verdict::Yes(AcceptedProof {
             issuer,
             key,
             mandatory: value.indexes,
@@ -124,7 +123,7 @@ fn is_plain(value: &DerivedValue) -> bool
 }
 
 /// The cause that is found before a key is asked for, of a proof without signatures.
-#[tactic(auto, using(crate::proofs::VerifyFacts::cause_steps))]
+#[tactic(auto, using(crate::proofs::Verdicts::cause_steps))]
 fn cause_of(lines: &[Text], indexes: &[u64]) -> Option<Cause>
     requires { rise indexes.now ≡ true }
     ensures { IsCauseOf lines.now indexes.now result }

@@ -1,5 +1,4 @@
-use Rattle.std.proofs.Common.{◌∙◌}
 use Rattle.vc_cli.proofs.input.not_whole.Goals as goal
 
 pub returns-in-Ok : goal.returns-in-Ok
-returns-in-Ok c bytes read = (c.args.place.now, read, c.from_vec.ensures ∙ c.in-Ok.ensures)
+returns-in-Ok c bytes read = (c.args.place.now, read, c.in-Ok.ensures)

@@ -1,10 +1,8 @@
-use Rattle.std.proofs.Common.{rules, ◌≡◌, List, [], Option, Some, None, false, subst, ◌∙◌}
-use Rattle.key_device.specs.declared.device.SignedEntry.{SignedEntry}
-use Rattle.key_device.specs.Devices.{GrewBy, log_entry}
+use Rattle.std.proofs.Common.{rules, ◌≡◌, [], Some, None, false, ◌∙◌}
+use Rattle.key_device.specs.Devices.{log_entry}
 use Rattle.key_device.specs.Tables.{key_for}
-use Rattle.vc_cli.specs.Issuing.{meaning}
-use Rattle.vc_cli.specs.Stages.{no_signature, whole_value}
-use Rattle.vc_cli.proofs.IssueFacts.{can_sign, has_statements, issued_is, key_asked, no_quads, statements_are, whole_count}
+use Rattle.vc_cli.specs.Internal.Stages.{no_signature, whole_value}
+use Rattle.vc_cli.proofs.IssuedProofs.{can_sign, grew_from, has_statements, issued_is, keeps_both, key_asked, no_quads, sign_keeps, statements_are, whole_count}
 use Rattle.vc_cli.proofs.issuing.issue.Goals as goal
 
 pub returns-then-is_empty-clause-outcome : goal.returns-then-is_empty-clause-outcome
@@ -17,18 +15,20 @@ returns-then-is_empty-clause-outcome g c = λ r w.
 
 pub returns-in_default-clause-outcome : goal.returns-in_default-clause-outcome
 returns-in_default-clause-outcome g c = λ r w.
-    let filled : c.args.task.quads ≡ [] → ⊥ = search rules in
+    let some : c.args.task.quads ≡ [] → ⊥ = search rules in
     let none : None ≡ key_for c.args.task.keys.entries c.args.task.method = search rules in (
       w.case_of,
-      record { is_case = w.is_case; filled = has_statements r c.args.task w filled },
+      record { is_case = w.is_case; some_statements = has_statements r c.args.task w some },
       key_asked r c.args.task w None none,
       w.method,
     )
 
 pub returns-in-Ok-sign-clause-outcome : goal.returns-in-Ok-sign-clause-outcome
 returns-in-Ok-sign-clause-outcome g c = λ r w.
-    let filled : c.args.task.quads ≡ [] → ⊥ = search rules in
+    let some : c.args.task.quads ≡ [] → ⊥ = search rules in
     let found : Some c.in-Some.issuer ≡ key_for c.args.task.keys.entries c.args.task.method = search rules in
+    let before = g.D.KeyDevice.means c.args.device.now in
+    let after = g.D.KeyDevice.means c.sign.new.self in
     let key = c.in-Ok.fresh.key in
     let secret = c.in-Ok.fresh.secret in
     let signature = c.in-Ok-sign.signature in
@@ -37,11 +37,10 @@ returns-in-Ok-sign-clause-outcome g c = λ r w.
       w.case_of,
       w.is_case,
       issued_is
-          (meaning (g.D.KeyDevice.accepts c.args.device.now) (g.D.KeyDevice.owns c.args.device.now) (g.D.KeyDevice.signed c.args.device.now) (g.D.KeyDevice.next_secret c.args.device.now) (g.D.KeyDevice.faults c.args.device.now) (g.D.KeyDevice.exact c.args.device.now))
-          (meaning (g.D.KeyDevice.accepts c.sign.new.self) (g.D.KeyDevice.owns c.sign.new.self) (g.D.KeyDevice.signed c.sign.new.self) (g.D.KeyDevice.next_secret c.sign.new.self) (g.D.KeyDevice.faults c.sign.new.self) (g.D.KeyDevice.exact c.sign.new.self))
-          r c.args.task w c.finish-in-Ok-sign.result c.in_ok-draft.draft.record c.in-Some.issuer key secret signature c.finish.result c.deref.result.now
-          filled
-          (c.finish-in-Ok-sign.ensures ∙ made.secured c.finish.result)
+          before after
+          r c.args.task w c.finish-in-Ok-sign.result c.in_ok-draft.draft.base_record c.in-Some.issuer key secret signature c.finish.result c.deref.result.now
+          some
+          (c.finish-in-Ok-sign.ensures ∙ made.proof c.finish.result)
           (c.finish.ensures.spelled (whole_value key.bytes secret no_signature) made.value
           (can_sign key.bytes secret no_signature signature.bytes made.can_write c.finish.ensures.long)
           (whole_count key.bytes secret signature.bytes))
@@ -52,20 +51,28 @@ returns-in-Ok-sign-clause-outcome g c = λ r w.
           (made.record_is w.case_of.statements w.case_of.options w.quads w.option_quads)
           (c.deref.ensures.value ∙ made.bytes)
           signed.accepted
-          (subst (λ (s : Option (List SignedEntry)). GrewBy (log_entry c.in-Some.issuer c.deref.result.now signature) s (g.D.KeyDevice.signed c.sign.new.self)) c.in-Ok.ensures.record_stays signed.recorded)
+          (grew_from (log_entry c.in-Some.issuer c.deref.result.now signature) before (g.D.KeyDevice.means c.secret_and_key.new.device) after c.in-Ok.ensures.log signed.logged)
           c.in-Ok.ensures.new
           (signed.ownership key ∙ c.in-Ok.ensures.owned)
           (signed.ownership c.in-Some.issuer ∙ signed.was_owned),
       c.len-statements.ensures ∙ statements_are r c.args.task w,
     )
 
+pub returns-in-Ok-sign-clause-keeps : goal.returns-in-Ok-sign-clause-keeps
+returns-in-Ok-sign-clause-keeps g c =
+    let before = g.D.KeyDevice.means c.args.device.now in
+    let between = g.D.KeyDevice.means c.secret_and_key.new.device in
+    let after = g.D.KeyDevice.means c.sign.new.self in
+    let s = c.in-Ok-sign.ensures in
+    keeps_both before between after c.in-Ok.ensures.keeps (sign_keeps between after s.acceptance s.ownership s.exactness s.counted)
+
 pub returns-in-Err-NoKey-sign-clause-outcome : goal.returns-in-Err-NoKey-sign-clause-outcome
 returns-in-Err-NoKey-sign-clause-outcome g c = λ r w.
-    let filled : c.args.task.quads ≡ [] → ⊥ = search rules in
+    let some : c.args.task.quads ≡ [] → ⊥ = search rules in
     let found : Some c.in-Some.issuer ≡ key_for c.args.task.keys.entries c.args.task.method = search rules in
-    let unowned : g.D.KeyDevice.owns c.secret_and_key.new.device c.in-Some.issuer ≡ false = search rules in (
+    let unowned : (g.D.KeyDevice.means c.secret_and_key.new.device).owns c.in-Some.issuer ≡ false = search rules in (
       w.case_of,
-      record { is_case = w.is_case; filled = has_statements r c.args.task w filled },
+      record { is_case = w.is_case; some_statements = has_statements r c.args.task w some },
       key_asked r c.args.task w (Some c.in-Some.issuer) found,
       c.in-Err-NoKey-sign.ensures.ownership c.in-Some.issuer ∙ unowned,
     )

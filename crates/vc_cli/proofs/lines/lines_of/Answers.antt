@@ -1,5 +1,5 @@
 use Rattle.std.proofs.Common.{◌∙◌}
-use Rattle.vc_cli.proofs.LineFacts.{sorted_lines}
+use Rattle.vc_cli.proofs.FlatLines.{sorted_lines}
 use Rattle.vc_cli.proofs.lines.lines_of.Goals as goal
 
 pub returns : goal.returns

@@ -1,6 +1,6 @@
 use Rattle.std.proofs.Common.{rules, ◌≡◌, [], None, nat_le, length, refl, arith}
 use Rattle.std.specs.List.{position}
-use Rattle.vc_cli.proofs.VerifyFacts.{count_cause, no_cause}
+use Rattle.vc_cli.proofs.Verdicts.{count_cause, no_cause}
 use Rattle.vc_cli.proofs.verifying.cause_of.Goals as goal
 
 pub returns-then-indexes-lines : goal.returns-then-indexes-lines

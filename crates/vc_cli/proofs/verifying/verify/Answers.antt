@@ -5,10 +5,10 @@ use Rattle.key_device.specs.Tables.{key_for}
 use Rattle.proof_cbor.specs.Reading.{reading_derived}
 use Rattle.nquads.specs.Spelling.{text_quad}
 use Rattle.stmt_groups.specs.Records.{sign_data}
-use Rattle.vc_cli.specs.Stages.{IsCauseOf, ReadsPlain}
+use Rattle.vc_cli.specs.Internal.Stages.{IsCauseOf, ReadsPlain}
 use Rattle.vc_cli.specs.Verifying.{key_name, signature}
-use Rattle.vc_cli.proofs.Facts.{flat_named_by}
-use Rattle.vc_cli.proofs.VerifyFacts.{case_of, cause_is, checked_are, is_case_of, is_no, is_right, is_yes, no_memory, sound_of, value_failed}
+use Rattle.vc_cli.proofs.FlatTexts.{flat_named_by}
+use Rattle.vc_cli.proofs.Verdicts.{case_of, cause_is, checked_are, is_case_of, is_no, is_right, is_yes, no_memory, sound_of, value_failed}
 use Rattle.vc_cli.proofs.verifying.verify.Goals as goal
 
 pub lines_of-requires : goal.lines_of-requires
@@ -25,7 +25,7 @@ returns-in-Some-clause-outcome g c = λ r w.
     subst (λ (ls : List (List ℕ)). IsCauseOf ls value.indexes (Some c.in-Some.cause)) c.as_slice.ensures (subst (λ (xs : List ℕ). IsCauseOf c.as_slice.result.now xs (Some c.in-Some.cause)) c.as_slice-2.ensures c.in-Some.ensures) in (
       case_of r c.args.task w value,
       is_case_of r c.args.task w value (ap reading_derived (sym c.as_str.ensures) ∙ c.in_ok-value.ensures.0) plain,
-      cause_is r c.args.task w value (g.D.KeyDevice.accepts c.args.device.now) c.in_ok-lines.lines c.in-Some.cause plain.0 (c.in_ok-lines.ensures w.statements w.quads) h,
+      cause_is r c.args.task w value (g.D.KeyDevice.means c.args.device.now).accepts c.in_ok-lines.lines c.in-Some.cause plain.0 (c.in_ok-lines.ensures w.statements w.quads) h,
     )
 
 pub returns-in_default-find-clause-outcome : goal.returns-in_default-find-clause-outcome
@@ -43,14 +43,14 @@ returns-in_default-find-clause-outcome g c = λ r w.
 
 pub returns-in_err-value-clause-outcome : goal.returns-in_err-value-clause-outcome
 returns-in_err-value-clause-outcome g c = λ r w.
-    let faults = g.D.KeyDevice.faults c.args.device.now in
+    let device = g.D.KeyDevice.means c.args.device.now in
     let h : ReadsPlain c.args.task.value (Err c.in_err-value.field-0.0) = subst (λ (text : List ℕ). ReadsPlain text (Err c.in_err-value.field-0.0)) c.as_str.ensures c.in_err-value.ensures in
-    value_failed (g.D.KeyDevice.accepts c.args.device.now) faults faults r c.args.task w c.from_residual.result c.in_err-value.field-0.0 c.from_residual.ensures.1 h
+    value_failed device device r c.args.task w c.from_residual.result c.in_err-value.field-0.0 c.from_residual.ensures.1 h
 
 pub returns-in_err-bytes-clause-outcome : goal.returns-in_err-bytes-clause-outcome
 returns-in_err-bytes-clause-outcome g c = λ r w.
-    let faults = g.D.KeyDevice.faults c.args.device.now in
-    no_memory (g.D.KeyDevice.accepts c.args.device.now) faults faults r c.from_residual-in_err-bytes.result c.from_residual-in_err-bytes.ensures.1
+    let device = g.D.KeyDevice.means c.args.device.now in
+    no_memory device device r c.from_residual-in_err-bytes.result c.from_residual-in_err-bytes.ensures.1
 
 pub returns-in-Ok-true-clause-outcome : goal.returns-in-Ok-true-clause-outcome
 returns-in-Ok-true-clause-outcome g c = λ r w.
@@ -60,7 +60,7 @@ returns-in-Ok-true-clause-outcome g c = λ r w.
     let option_lines = c.in_ok-option_lines.option_lines in
     let issuer = c.in-Some-find.issuer in
     let bytes = c.deref.result.now in
-    let accepts = g.D.KeyDevice.accepts c.args.device.now in
+    let accepts = (g.D.KeyDevice.means c.args.device.now).accepts in
     let plain = c.in_ok-value.ensures.1 in
     let reads = ap reading_derived (sym c.as_str.ensures) ∙ c.in_ok-value.ensures.0 in
     let are = c.in_ok-lines.ensures w.statements w.quads in
@@ -91,7 +91,7 @@ returns-in-Ok-false-clause-outcome g c = λ r w.
     let option_lines = c.in_ok-option_lines.option_lines in
     let issuer = c.in-Some-find.issuer in
     let bytes = c.deref.result.now in
-    let accepts = g.D.KeyDevice.accepts c.args.device.now in
+    let accepts = (g.D.KeyDevice.means c.args.device.now).accepts in
     let plain = c.in_ok-value.ensures.1 in
     let reads = ap reading_derived (sym c.as_str.ensures) ∙ c.in_ok-value.ensures.0 in
     let are = c.in_ok-lines.ensures w.statements w.quads in
