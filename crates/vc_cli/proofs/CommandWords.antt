@@ -1,5 +1,7 @@
 -- The words of the commands, and what a yes of a run says.
-use Rattle.std.proofs.Common.{◌≡◌, ℕ, List, [], ◌∷◌, Bool, IsTrue, true, false, nat_eq, refl, sym, ap, ◌∙◌, inl, inr, codes, arith}
+use Rattle.std.proofs.Common.{◌≡◌, ◌<◌, ◌≤◌, ℕ, List, [], ◌∷◌, length, get_or, Bool, IsTrue, true, false, nat_eq, refl, sym, ap, ◌∙◌, inl, inr, codes, arith}
+use Rattle.std.specs.Str.{bytes_eq}
+use Rattle.std.proofs.lemmas.Slice.Eq.{bytes_eq-Decides}
 use Rattle.std.proofs.lemmas.Bool.{true≢false}
 use Rattle.std.proofs.lemmas.Bool.Decides.{nat_tests}
 use Rattle.vc_io.specs.Bytes.{SinkMeaning, SourceMeaning}
@@ -11,6 +13,23 @@ use Rattle.vc_cli.specs.declared.status.Status.TheVariants as status
 use Rattle.vc_cli.specs.Replies.{status_of}
 use Rattle.vc_cli.specs.Answers.{Answers, AnswersRequest, Delivers, HasSoundYes, IsCommand, IsIssueCommand, IsStatements, IsVerifyCommand, IssueAnswers, StatementsAnswers, VerifyAnswers}
 use Rattle.vc_cli.specs.Internal.Stages.{HasSoundReply}
+
+-- ---- one word
+
+-- a list of one element
+pub one_element : (xs : List (List ℕ)) (x : List ℕ) → 1 ≤ length xs → length xs < 2 → x ≡ get_or xs 0 x → xs ≡ x ∷ []
+one_element [] x some few is = absurd (omega arith)
+one_element (y ∷ []) x some few is = ap (λ z. z ∷ []) (sym is)
+one_element (y ∷ z ∷ zs) x some few is = absurd (omega arith)
+
+-- the words are one word, which a test compared with a text
+pub is_one_word : (words : List (List ℕ)) (word seen text : List ℕ) (r : Bool) → 1 ≤ length words → length words < 2 → word ≡ get_or words 0 word → seen ≡ word → r ≡ bytes_eq seen text → (IsTrue r → words ≡ text ∷ []) × (words ≡ text ∷ [] → IsTrue r)
+is_one_word words word seen text r some few is same said =
+    let one : words ≡ word ∷ [] = one_element words word some few is in
+    let decides = bytes_eq-Decides seen text in (
+      (λ t. let equal : seen ≡ text = decides.0 (sym said ∙ t) in cc),
+      (λ e. let equal : seen ≡ text = cc in said ∙ decides.1 equal),
+    )
 
 -- ---- words that begin with two letters are two words
 

@@ -6,8 +6,8 @@ pub mod Parting
 pub mod Printing
 pub mod Flatness
 pub mod Drafting
-pub mod FlatLines
 pub mod Verdicts
 pub mod StageReplies
 pub mod CommandWords
 pub mod IssuedProofs
+pub mod ReplyTexts

@@ -1,13 +1,12 @@
 //! Issuing a base proof (Data Integrity ECDSA Cryptosuites 1.0, create base proof) in which every
 //! statement is mandatory.
 
-ghost use Rattle.std.specs.Prelude.{◌≡◌, ◌<◌, true, false, List, ℕ, map, All, [], IfOk, OnErr, IsErrOf, length};
+ghost use Rattle.std.specs.Prelude.{◌≡◌, ◌<◌, true, false, List, ℕ, map, IfOk, OnErr, IsErrOf, length};
 ghost use Rattle.json_tree.specs.declared.tree.Tree.{Tree as AnyTree};
 ghost use Rattle.key_device.specs.Devices.{CountsFault, IsSecretTold, MeansSame};
 ghost use Rattle.key_device.specs.declared.device.DeviceError.TheVariants.{Failed, NoKey};
 ghost use Rattle.nquads.specs.Terms.{Statement};
 ghost use Rattle.nquads.specs.Spelling.{text_quad};
-ghost use Rattle.nquads.specs.Texts.{Names};
 ghost use Rattle.proof_cbor.specs.Values.{IsDraft, CanWriteBase};
 ghost use Rattle.stmt_groups.specs.Records.{IsRecord};
 ghost use Rattle.vc_cli.specs.Requests.{with_proof};
@@ -145,7 +144,6 @@ fn prepare(
     issuer: KeyName,
     fresh: &Fresh,
 ) -> Result<IssueDraft, Memory>
-    requires task { (r : AnyTree) × IsIssueTask r task }
     requires document { IsObject task.document × IsPrintable task.document }
     requires options { IsObject task.options × IsPrintable task.options }
     ensures proof { IfOk result (λ d. (value : List ℕ)
@@ -192,8 +190,6 @@ fn record(
     issuer: KeyName,
     key: KeyName,
 ) -> Result<BaseRecord, Memory>
-    requires quads { All (Names []) quads.now }
-    requires option_quads { All (Names []) option_quads.now }
     ensures issuer { IfOk result (λ made. made.issuer ≡ issuer) }
     ensures key { IfOk result (λ made. made.key ≡ key) }
     ensures is { (q o : List Statement)

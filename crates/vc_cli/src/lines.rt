@@ -1,55 +1,33 @@
 //! The canonical lines of statements without blank nodes, and the bytes that an issuer key signs.
 
-ghost use Rattle.std.specs.Prelude.{◌≡◌, [], List, map, All, IfOk};
+ghost use Rattle.std.specs.Prelude.{◌≡◌, List, map, IfOk};
 ghost use Rattle.std.specs.List.{concat};
 ghost use Rattle.sha2.specs.Sha256.{sha256};
 ghost use Rattle.nquads.specs.Terms.{Statement};
 ghost use Rattle.nquads.specs.Spelling.{text_quad};
-ghost use Rattle.nquads.specs.Lines.{canonical_lines, line};
-ghost use Rattle.nquads.specs.Texts.{Names};
+ghost use Rattle.nquads.specs.Lines.{canonical_lines};
 ghost use Rattle.stmt_groups.specs.Records.{sign_data};
 ghost use Rattle.vc_cli.specs.Issuing.{no_label};
 
 use key_device::KeyName;
-use nquads::{Memory, Sequence, Text, TextLabels, TextQuad, TextQuads};
+use nquads::{Memory, Sequence, Text, TextLabels, TextQuads};
 use std::alloc::Global;
 
-/// The canonical lines of a dataset without blank nodes (RDF Dataset Canonicalization, 4.4).
+/// The canonical lines of a dataset without blank nodes (RDF Dataset Canonicalization, canonical
+/// N-Quads form).
 pub(crate) fn lines_of(alloc: Global, quads: &TextQuads) -> Result<Sequence<Text>, Memory>
-    requires { All (Names []) quads.now }
     ensures { (q : List Statement) → quads.now ≡ map text_quad q
         → IfOk result (λ lines. lines ≡ canonical_lines no_label q) }
 {
-    let mut lines = each_line(alloc, quads.as_slice())?;
-    lines.sort_unstable();
-    lines.dedup();
-    Ok(Sequence::from_vec(lines))
-}
-
-/// The line of each statement, in their order.
-fn each_line(alloc: Global, quads: &[TextQuad]) -> Result<Vec<Text>, Memory>
-    requires { All (Names []) quads.now }
-    ensures { (q : List Statement) → quads.now ≡ map text_quad q
-        → IfOk result (λ lines. lines.items ≡ map (line no_label) q) }
-{
-    let labels = TextLabels::new(alloc);
-    let mut lines = Vec::new(alloc);
-    for quad in quads {
-        let line = nquads::line_of(alloc, quad, &labels)?;
-        lines.push(line)?;
-    }
-    Ok(lines)
+    nquads::canonical_lines(alloc, quads, &TextLabels::new(alloc))
 }
 
 /// The SHA-256 digest of the lines, one after another.
 fn digest_of(alloc: Global, lines: &[Text]) -> Result<[u8; 32], Memory>
     ensures { IfOk result (λ digest. digest ≡ sha256 (concat lines.now)) }
 {
-    let mut bytes = Vec::new(alloc);
-    for line in lines {
-        bytes.extend_from_slice(line.as_bytes())?;
-    }
-    Ok(digest_mac::sha256(&bytes))
+    let text = nquads::join(alloc, lines)?;
+    Ok(digest_mac::sha256(&text))
 }
 
 /// The bytes that an issuer key signs (Data Integrity ECDSA Cryptosuites 1.0, serializeSignData): the

@@ -18,8 +18,6 @@ mod requests;
 mod run;
 mod status;
 mod tasks;
-#[cfg(test)]
-mod tests;
 mod verifying;
 
 use key_device::{KeyName, LedgerDevice};

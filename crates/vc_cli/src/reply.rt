@@ -47,7 +47,8 @@ pub enum Reply {
 }
 
 impl Reply {
-    /// The bytes that are written. It takes no memory.
+    /// The bytes that are written. It takes no memory: the texts here are those of their trees.
+    #[tactic(auto, using(crate::proofs::ReplyTexts::reply_lines))]
     pub fn as_bytes(&self) -> &[u8]
         ensures { result.now ≡ bytes_of self.now }
     {

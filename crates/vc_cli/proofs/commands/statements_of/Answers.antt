@@ -1,5 +1,5 @@
 use Rattle.std.proofs.Common.{◌∙◌}
-use Rattle.vc_cli.proofs.FlatTexts.{flat_named_by, text_without, same_from}
+use Rattle.vc_cli.proofs.FlatTexts.{text_without, same_from}
 use Rattle.vc_cli.proofs.commands.statements_of.Goals as goal
 
 pub returns-in-Ok-text_of : goal.returns-in-Ok-text_of

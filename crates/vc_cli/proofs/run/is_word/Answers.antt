@@ -1,4 +1,4 @@
-use Rattle.vc_cli.proofs.FlatTexts.{is_one_word}
+use Rattle.vc_cli.proofs.CommandWords.{is_one_word}
 use Rattle.vc_cli.proofs.run.is_word.Goals as goal
 
 pub returns-in-len1 : goal.returns-in-len1

@@ -7,15 +7,8 @@ use Rattle.nquads.specs.Spelling.{text_quad}
 use Rattle.stmt_groups.specs.Records.{sign_data}
 use Rattle.vc_cli.specs.Internal.Stages.{IsCauseOf, ReadsPlain}
 use Rattle.vc_cli.specs.Verifying.{key_name, signature}
-use Rattle.vc_cli.proofs.FlatTexts.{flat_named_by}
 use Rattle.vc_cli.proofs.Verdicts.{case_of, cause_is, checked_are, is_case_of, is_no, is_right, is_yes, no_memory, sound_of, value_failed}
 use Rattle.vc_cli.proofs.verifying.verify.Goals as goal
-
-pub lines_of-requires : goal.lines_of-requires
-lines_of-requires g c = let w = c.requires.1 in flat_named_by _ [] c.args.task.quads w.statements refl w.quads w.means.exact
-
-pub lines_of-requires-2 : goal.lines_of-requires-2
-lines_of-requires-2 g c = let w = c.requires.1 in flat_named_by _ [] c.args.task.option_quads w.option_statements refl w.option_quads w.options_mean.exact
 
 pub returns-in-Some-clause-outcome : goal.returns-in-Some-clause-outcome
 returns-in-Some-clause-outcome g c = λ r w.
