@@ -21,10 +21,11 @@ use Rattle.nquads.specs.Lines.{canonical_lines}
 use Rattle.proof_cbor.specs.Values.{CanWriteBase, SpellsBase, base_item}
 use Rattle.proof_cbor.proofs.Making.{base_nests, base_rises}
 use Rattle.stmt_groups.specs.declared.types.BaseRecord.{BaseRecord}
-use Rattle.stmt_groups.specs.Records.{IsRecord, IsSplit, sign_data}
+use Rattle.stmt_groups.specs.Datasets.{IsLabelled}
+use Rattle.stmt_groups.specs.Records.{IsRecord, IsSplit}
 use Rattle.vc_cli.specs.declared.tasks.IssueTask.{IssueTask}
 use Rattle.vc_cli.specs.Requests.{with_proof}
-use Rattle.vc_cli.specs.Issuing.{IsIssued, no_label, signed_bytes}
+use Rattle.vc_cli.specs.Issuing.{IsIssued, no_label, signed_bytes, unlabelled}
 use Rattle.vc_cli.specs.Answers.{Keeps}
 use Rattle.vc_cli.specs.Internal.Stages.{whole_value}
 use Rattle.vc_cli.specs.Internal.Tasks.{IsIssueTask}
@@ -73,8 +74,9 @@ whole_split q = record {
   rest = λ s. (λ c. absurd (Contains-nil s c), λ p. absurd (p.1 p.0));
 }
 
-pub whole_record : (q o : List Statement) (made : BaseRecord) → made.mandatory ≡ canonical_lines no_label q → made.options ≡ canonical_lines no_label o → made.others ≡ [] → IsRecord no_label no_label q q o made
-whole_record q o made mandatory options others = record { others = []; split = whole_split q; mandatory_lines = mandatory; other_lines = others; options_lines = options }
+-- the record of an issue in which every statement is mandatory
+pub whole_record : (q o : List Statement) (made : BaseRecord) → made.mandatory ≡ canonical_lines no_label q → made.options ≡ canonical_lines no_label o → made.others ≡ [] → IsLabelled (unlabelled q) → IsLabelled (unlabelled o) → IsRecord (unlabelled q) (unlabelled o) q made
+whole_record q o made mandatory options others labelled options_labelled = record { document_labels = labelled; options_labels = options_labelled; others = []; split = whole_split q; mandatory_lines = mandatory; other_lines = others; options_lines = options }
 
 -- ---- the whole
 
@@ -106,7 +108,7 @@ pub issued_is : (before after : DeviceMeaning) (r : Tree) (t : IssueTask) (w : I
     → Some issuer ≡ key_for t.keys.entries t.method
     → made.issuer ≡ issuer
     → made.key ≡ key
-    → IsRecord no_label no_label w.case_of.statements w.case_of.statements w.case_of.options made
+    → IsRecord (unlabelled w.case_of.statements) (unlabelled w.case_of.options) w.case_of.statements made
     → bytes ≡ signed_bytes made
     → after.accepts issuer bytes signature ≡ true
     → GrewBy (log_entry issuer bytes signature) before after

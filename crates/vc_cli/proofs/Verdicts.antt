@@ -2,7 +2,7 @@
 use Rattle.std.proofs.Common.{◌≡◌, ℕ, ◌-◌, ◌<◌, ◌≤◌, List, [], ◌∷◌, ◌++◌, length, get_or, map, All, Contains, Bool, true, false, not, Some, None, Ok, Err, nat_le, refl, sym, ap, ◌∙◌, subst, arith}
 use Rattle.std.specs.Prelude.{Result}
 use Rattle.std.specs.Result.{IsErrAnd}
-use Rattle.std.specs.List.{position, prefix_len, flat_map}
+use Rattle.std.specs.List.{AllZip, position, prefix_len}
 use Rattle.std.proofs.lemmas.List.Sums.{prefix_len_passes}
 use Rattle.std.proofs.lemmas.Bool.Decides.{nat_tests}
 use Rattle.std.proofs.lemmas.List.Quantifiers.{position-Some}
@@ -15,24 +15,24 @@ use Rattle.json_tree.specs.declared.tree.Tree.{Tree}
 use Rattle.key_device.specs.declared.keys.KeyName.{KeyName}
 use Rattle.key_device.specs.Devices.{Acceptance, DeviceMeaning}
 use Rattle.key_device.specs.Tables.{key_for}
-use Rattle.ld_rdf.specs.Flat.{IsFlatMeaning, Means}
-use Rattle.nquads.specs.Terms.{Blank, Statement}
-use Rattle.nquads.specs.Lines.{HasLabels, LabelsDiffer, canonical_lines, line}
-use Rattle.nquads.specs.Renaming.{StandsIn, blanks_of}
-use Rattle.nquads.proofs.ReadingElements.{All-from_contains}
+use Rattle.nquads.specs.Terms.{Statement}
+use Rattle.nquads.specs.Lines.{canonical_lines, line}
 use Rattle.proof_cbor.specs.declared.value.DerivedValue.{DerivedValue}
 use Rattle.proof_cbor.specs.Reading.{reading_derived}
 use Rattle.stmt_groups.specs.declared.types.Cause.{Cause}
 use Rattle.stmt_groups.specs.declared.types.Cause.TheVariants as cause
 use Rattle.stmt_groups.specs.Lines.{lines_at, other_lines}
 use Rattle.stmt_groups.specs.Records.{sign_data}
-use Rattle.stmt_groups.specs.Proofs.{AreBelow}
+use Rattle.stmt_groups.specs.Proofs.{AreBelow, IsGood, verify_bytes}
+use Rattle.stmt_groups.specs.Soundness.{NamesOne}
 use Rattle.stmt_groups.proofs.LineLemmas.{no_other_line, other_lines-length}
 use Rattle.stmt_groups.proofs.Naming.{covered_names_one}
+use Rattle.stmt_groups.proofs.Revealing.{document_reveals, options_same}
 use Rattle.vc_cli.specs.declared.tasks.VerifyTask.{VerifyTask}
 use Rattle.vc_cli.specs.Internal.Tasks.{IsVerifyTask}
 use Rattle.vc_cli.specs.Issuing.{no_label}
-use Rattle.vc_cli.specs.Verifying.{HasCause, IsFirstOver, IsPlainValue, IsRight, IsSound, IsVerifyCase, IsYes, VerifyCase, checked_bytes, key_name, proof_of, signature}
+use Rattle.vc_cli.specs.Verifying.{HasCause, IsFirstOver, IsPlainValue, IsRight, IsSound, IsVerifyCase, IsYes, VerifyCase, key_name, signature, verify_data}
+use Rattle.vc_cli.proofs.FlatTexts.{flat_labelled}
 use Rattle.vc_cli.specs.declared.verifying.Verdict.{Verdict}
 use Rattle.vc_cli.specs.declared.verifying.VerifyFault.{VerifyFault}
 use Rattle.vc_cli.specs.declared.verifying.VerifyFault.TheVariants as unverified
@@ -93,22 +93,6 @@ empty_list : (xs : List (List ℕ)) → length xs ≡ 0 → xs ≡ []
 empty_list [] none = refl
 empty_list (x ∷ xs) none = absurd (omega arith)
 
--- ---- statements without blank nodes
-
-meant_no_blanks : (r : Tree) (s : Statement) → Means r s → blanks_of s ≡ []
-meant_no_blanks r s m = ap blanks_of m.is
-
-module _ (r : Tree) (q : List Statement) (means : IsFlatMeaning r q) where
-  pub flat_labels : All (HasLabels no_label) q
-  flat_labels = All-from_contains (HasLabels no_label) q (λ s c b stands. absurd (Contains-nil b (subst (λ (bs : List Blank). Contains bs b) (meant_no_blanks r s ((means.exact s).0 c)) stands)))
-
-  pub flat_differ : LabelsDiffer no_label q
-  flat_differ a b here there same = absurd (none q (λ s c. meant_no_blanks r s ((means.exact s).0 c)) a here)
-    where
-      none : (ss : List Statement) → ((s : Statement) → Contains ss s → blanks_of s ≡ []) → (x : Blank) → StandsIn ss x → ⊥
-      none [] all x stands = Contains-nil x stands
-      none (s ∷ ss) all x stands = none ss (λ t c. all t (Contains-there s ss t c)) x (subst (λ (bs : List Blank). Contains (bs ++ flat_map blanks_of ss) x) (all s (Contains-here s ss)) stands)
-
 -- ---- the case of a task
 
 module _ (r : Tree) (t : VerifyTask) (w : IsVerifyTask r t) (value : DerivedValue) where
@@ -119,11 +103,19 @@ module _ (r : Tree) (t : VerifyTask) (w : IsVerifyTask r t) (value : DerivedValu
     pub is_case_of : IsVerifyCase r case_of
     is_case_of = record { are = w.are; means = w.means; options_mean = w.options_mean; reads = ap reading_derived (sym w.value) ∙ reads; plain = plain }
 
-  pub sound_of : (issuer : KeyName) → IsSound case_of issuer
-  sound_of issuer = λ history covered.
-      covered_names_one history issuer (proof_of value) no_label no_label w.statements w.option_statements
-      w.are_statements (flat_labels _ w.statements w.means) (flat_differ _ w.statements w.means)
-      w.are_options (flat_labels _ w.option_statements w.options_mean) (flat_differ _ w.option_statements w.options_mean) covered
+  -- a good proof is sound
+  pub sound_of : (accepts : Acceptance) (issuer : KeyName) → IsGood accepts (verify_data case_of issuer) → IsSound accepts case_of issuer
+  sound_of accepts issuer good = λ history covered.
+      let v = verify_data case_of issuer in
+      let n : NamesOne history v = covered_names_one history accepts v good covered
+          (flat_labelled _ w.statements w.means w.are_statements) (flat_labelled _ w.option_statements w.options_mean w.are_options) in
+      record {
+        names = n;
+        reveals = λ issued options mandatory made. (
+          options_same issued options mandatory n.one made v.document v.options v.proof.indexes n.holds,
+          document_reveals issued options mandatory n.one made v.document v.options v.proof.indexes n.holds,
+        );
+      }
 
   -- the cause that was found
   pub cause_is : (accepts : Acceptance) (lines : List (List ℕ)) (why : Cause) → value.signatures ≡ [] → lines ≡ canonical_lines no_label w.statements → IsCauseOf lines value.indexes (Some why) → HasCause accepts case_of why
@@ -148,35 +140,38 @@ module _ (r : Tree) (t : VerifyTask) (w : IsVerifyTask r t) (value : DerivedValu
     is_right = record {
       some_statements = λ e. h.0 (are ∙ ap (canonical_lines no_label) e);
       below = subst (λ (ls : List (List ℕ)). AreBelow ls value.indexes) are h.1;
-      count = ap (λ (ss : List (List ℕ)). length (map signature ss)) none ∙ sym h.2 ∙ ap (λ (ls : List (List ℕ)). length (other_lines value.indexes ls)) are;
+      count = ap (λ (ss : List (List ℕ)). length ss) none ∙ sym h.2 ∙ ap (λ (ls : List (List ℕ)). length (other_lines value.indexes ls)) are;
     }
 
-    -- the bytes that were checked
-    pub checked_are : (option_lines : List (List ℕ)) (bytes : List ℕ) → option_lines ≡ canonical_lines no_label w.option_statements → bytes ≡ sign_data option_lines (key_name value.key) lines → bytes ≡ checked_bytes case_of
-    checked_are option_lines bytes options_are is =
-        let all : lines_at value.indexes lines ≡ lines = no_other_line value.indexes lines h.2 in
-        is ∙ ap (λ (ls : List (List ℕ)). sign_data ls (key_name value.key) lines) options_are ∙ ap (sign_data (canonical_lines no_label w.option_statements) (key_name value.key)) (sym all)
-        ∙ ap (λ (ls : List (List ℕ)). sign_data (canonical_lines no_label w.option_statements) (key_name value.key) (lines_at value.indexes ls)) are
+    module _ (accepts : Acceptance) (issuer : KeyName) (found : key_for t.keys.entries t.method ≡ Some issuer) where
+      -- the bytes that were checked
+      pub checked_are : (option_lines : List (List ℕ)) (bytes : List ℕ) → option_lines ≡ canonical_lines no_label w.option_statements → bytes ≡ sign_data option_lines (key_name value.key) lines → bytes ≡ verify_bytes (verify_data case_of issuer)
+      checked_are option_lines bytes options_are is =
+          let all : lines_at value.indexes lines ≡ lines = no_other_line value.indexes lines h.2 in
+          is ∙ ap (λ (ls : List (List ℕ)). sign_data ls (key_name value.key) lines) options_are ∙ ap (sign_data (canonical_lines no_label w.option_statements) (key_name value.key)) (sym all)
+          ∙ ap (λ (ls : List (List ℕ)). sign_data (canonical_lines no_label w.option_statements) (key_name value.key) (lines_at value.indexes ls)) are
 
-    pub is_yes : (accepts : Acceptance) (issuer : KeyName) (bytes : List ℕ) → bytes ≡ checked_bytes case_of → key_for t.keys.entries t.method ≡ Some issuer → true ≡ accepts issuer bytes (signature value.signature) → IsYes accepts case_of issuer
-    is_yes accepts issuer bytes checked found said =
-        let others : other_lines value.indexes (canonical_lines no_label w.statements) ≡ [] = empty_list _ (ap (λ (ls : List (List ℕ)). length (other_lines value.indexes ls)) (sym are) ∙ h.2) in
-        record {
-          key_is = (λ i. key_for (sym w.keys i) (sym w.method i)) ∙ found;
-          good = record {
-            filled = λ e. h.0 (are ∙ e);
+      pub is_good : (bytes : List ℕ) → bytes ≡ verify_bytes (verify_data case_of issuer) → true ≡ accepts issuer bytes (signature value.signature) → IsGood accepts (verify_data case_of issuer)
+      is_good bytes checked said =
+          let others : other_lines value.indexes (canonical_lines no_label w.statements) ≡ [] = empty_list _ (ap (λ (ls : List (List ℕ)). length (other_lines value.indexes ls)) (sym are) ∙ h.2) in
+          let signatures : map signature value.signatures ≡ [] = ap (map signature) none in
+          let zipped : AllZip (λ l s. accepts (key_name value.key) l s ≡ true) (other_lines value.indexes (canonical_lines no_label w.statements)) (map signature value.signatures) = rw (others, signatures) tt in
+          record {
+            not_empty = is_right.some_statements;
             below = is_right.below;
-            counted = is_right.count;
-            base = ap (λ (bs : List ℕ). accepts issuer bs (signature value.signature)) (sym checked) ∙ sym said;
-            statements = rw (others, none) tt;
-          };
-        }
+            counts = ap length signatures ∙ sym (ap length others);
+            base_signature = ap (λ (bs : List ℕ). accepts issuer bs (signature value.signature)) (sym checked) ∙ sym said;
+            statement_signatures = zipped;
+          }
 
-    pub is_no : (accepts : Acceptance) (issuer : KeyName) (bytes : List ℕ) → bytes ≡ checked_bytes case_of → key_for t.keys.entries t.method ≡ Some issuer → false ≡ accepts issuer bytes (signature value.signature) → HasCause accepts case_of cause.BaseSignature
-    is_no accepts issuer bytes checked found said = (
-      is_right,
-      (issuer, (λ i. key_for (sym w.keys i) (sym w.method i)) ∙ found, ap (λ (bs : List ℕ). accepts issuer bs (signature value.signature)) (sym checked) ∙ sym said),
-    )
+      pub is_yes : IsGood accepts (verify_data case_of issuer) → IsYes accepts case_of issuer
+      is_yes good = record { key_is = (λ i. key_for (sym w.keys i) (sym w.method i)) ∙ found; good = good }
+
+      pub is_no : (bytes : List ℕ) → bytes ≡ verify_bytes (verify_data case_of issuer) → false ≡ accepts issuer bytes (signature value.signature) → HasCause accepts case_of cause.BaseSignature
+      is_no bytes checked said = (
+        is_right,
+        (issuer, (λ i. key_for (sym w.keys i) (sym w.method i)) ∙ found, ap (λ (bs : List ℕ). accepts issuer bs (signature value.signature)) (sym checked) ∙ sym said),
+      )
 
 -- a value that is none, or not plain
 pub value_refused : (before after : DeviceMeaning) (r : Tree) (t : VerifyTask) (w : IsVerifyTask r t) (why : VerifyFault) → ReadsPlain t.value (Err why) → Verifies before after r (Err why)

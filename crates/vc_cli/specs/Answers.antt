@@ -177,7 +177,7 @@ pub record HasSoundYes (source : SourceMeaning) (accepts : Acceptance) : Type 0 
   pub reads : Reads bytes (Ok request)
   pub is_case : IsVerifyCase request verify_case
   pub is_yes : IsYes accepts verify_case issuer
-  pub is_sound : IsSound verify_case issuer
+  pub is_sound : IsSound accepts verify_case issuer
 
 -- How a reply is delivered to a sink that meant this before and after. Either it was written whole and
 -- the status is its own, or a write failed, which takes the place of every other status, and a prefix

@@ -9,12 +9,17 @@ use Rattle.proof_cbor.specs.declared.value.BaseValue.{BaseValue}
 use Rattle.proof_cbor.specs.Values.{SpellsBase}
 use Rattle.ld_rdf.specs.Flat.{IsFlatMeaning}
 use Rattle.stmt_groups.specs.declared.types.BaseRecord.{BaseRecord}
+use Rattle.stmt_groups.specs.Datasets.{LabelledDataset}
 use Rattle.stmt_groups.specs.Records.{IsRecord, sign_data}
 use Rattle.vc_cli.specs.Requests.{IssueParts, IsIssue, issue_body, issue_options, with_proof}
 
 -- no blank node has a label
 abbrev pub no_label : Blank → List ℕ
 no_label b = []
+
+-- statements without blank nodes need none
+abbrev pub unlabelled : List Statement → LabelledDataset
+unlabelled statements = record { statements = statements; label = no_label }
 
 -- a flat request for issuing, with the statements of its document and of its options
 pub record IssueCase : Type 0 where
@@ -49,7 +54,7 @@ pub record IsIssued (before after : DeviceMeaning)
   pub no_signatures : value.signatures ≡ []
   pub pointers : value.pointers ≡ [] ∷ []
   pub issuer : key_for c.parts.table c.parts.method ≡ Some made.issuer
-  pub is_record : IsRecord no_label no_label c.statements c.statements c.options made
+  pub is_record : IsRecord (unlabelled c.statements) (unlabelled c.options) c.statements made
   pub accepts : after.accepts made.issuer (signed_bytes made) signature ≡ true
   pub log_grows : GrewBy (log_entry made.issuer (signed_bytes made) signature) before after
   pub key_is_new : before.exact ≡ true → before.owns made.key ≡ false

@@ -7,18 +7,20 @@ use Rattle.key_device.specs.Devices.{Acceptance}
 use Rattle.key_device.specs.Tables.{key_for}
 use Rattle.nquads.specs.Terms.{Statement}
 use Rattle.nquads.specs.Lines.{canonical_lines}
+use Rattle.nquads.specs.Renaming.{Same}
 use Rattle.proof_cbor.specs.declared.value.DerivedValue.{DerivedValue}
 use Rattle.proof_cbor.specs.Reading.{reading_derived}
 use Rattle.ld_rdf.specs.Flat.{IsFlatMeaning}
 use Rattle.stmt_groups.specs.declared.types.BaseRecord.{BaseRecord}
 use Rattle.stmt_groups.specs.declared.types.Cause.{Cause}
 use Rattle.stmt_groups.specs.declared.types.Cause.TheVariants as cause
-use Rattle.stmt_groups.specs.Lines.{lines_at, other_lines}
-use Rattle.stmt_groups.specs.Records.{sign_data}
-use Rattle.stmt_groups.specs.Proofs.{AreBelow, IsCounted, IsGood, DerivedProof}
-use Rattle.stmt_groups.specs.Soundness.{IsCovered, NamesOne}
+use Rattle.stmt_groups.specs.Lines.{other_lines}
+use Rattle.stmt_groups.specs.Datasets.{LabelledDataset}
+use Rattle.stmt_groups.specs.Records.{IsRecord}
+use Rattle.stmt_groups.specs.Proofs.{AreBelow, DerivedProof, IsGood, VerifyData, verify_bytes}
+use Rattle.stmt_groups.specs.Soundness.{IsCovered, NamesOne, Reveals}
 use Rattle.vc_cli.specs.Requests.{VerifyParts, IsVerify, verify_body, verify_options}
-use Rattle.vc_cli.specs.Issuing.{no_label}
+use Rattle.vc_cli.specs.Issuing.{no_label, unlabelled}
 
 -- bytes as a key name and as a signature
 abbrev pub key_name : List ℕ → KeyName
@@ -54,12 +56,9 @@ pub record IsVerifyCase (r : Tree) (c : VerifyCase) : Type 0 where
   pub reads : reading_derived c.parts.value ≡ Ok c.value
   pub plain : IsPlainValue c.value
 
--- the canonical lines of its statements and of its options
+-- the canonical lines of its statements
 abbrev pub lines_of : VerifyCase → List (List ℕ)
 lines_of c = canonical_lines no_label c.statements
-
-abbrev pub option_lines_of : VerifyCase → List (List ℕ)
-option_lines_of c = canonical_lines no_label c.options
 
 -- the index at this place of the list is the first that is no line's
 pub record IsFirstOver (lines : List (List ℕ)) (indexes : List ℕ) (k : ℕ) : Type 0 where
@@ -72,12 +71,16 @@ pub record IsFirstOver (lines : List (List ℕ)) (indexes : List ℕ) (k : ℕ) 
 pub record IsRight (c : VerifyCase) : Type 0 where
   pub some_statements : c.statements ≢ []
   pub below : AreBelow (lines_of c) c.value.indexes
-  pub count : IsCounted (lines_of c) (proof_of c.value)
+  pub count : length c.value.signatures ≡ length (other_lines c.value.indexes (lines_of c))
 
--- the bytes that the issuer's signature is checked on
-abbrev pub checked_bytes : VerifyCase → List ℕ
-checked_bytes c =
-    sign_data (option_lines_of c) (key_name c.value.key) (lines_at c.value.indexes (lines_of c))
+-- what a case is verified with, under an issuer's key
+abbrev pub verify_data : VerifyCase → KeyName → VerifyData
+verify_data c issuer = record {
+  issuer = issuer;
+  document = unlabelled c.statements;
+  options = unlabelled c.options;
+  proof = proof_of c.value;
+}
 
 -- The document does not verify, and this is the cause: the first that applies.
 abbrev pub HasCause : Acceptance → VerifyCase → Cause → Type 0
@@ -92,7 +95,7 @@ HasCause accepts c (cause.Count signatures statements) =
 HasCause accepts c cause.BaseSignature =
     IsRight c
     × ((issuer : KeyName) × (key_for c.parts.table c.parts.method ≡ Some issuer)
-      × (accepts issuer (checked_bytes c) (signature c.value.signature) ≡ false))
+      × (accepts issuer (verify_bytes (verify_data c issuer)) (signature c.value.signature) ≡ false))
 HasCause accepts c (cause.Labels n) = ⊥
 HasCause accepts c (cause.Expired expires moment) = ⊥
 HasCause accepts c (cause.StatementSignature i) = ⊥
@@ -100,12 +103,20 @@ HasCause accepts c (cause.StatementSignature i) = ⊥
 -- The document verifies with the issuer's key of its method.
 pub record IsYes (accepts : Acceptance) (c : VerifyCase) (issuer : KeyName) : Type 0 where
   pub key_is : key_for c.parts.table c.parts.method ≡ Some issuer
-  pub good : IsGood accepts issuer (option_lines_of c) (lines_of c) (proof_of c.value)
+  pub good : IsGood accepts (verify_data c issuer)
 
--- What a yes says: for every history of records that covers it, exactly one has the accepted keys, and
--- it holds of the document and its options.
-abbrev pub IsSound : VerifyCase → KeyName → Type 0
-IsSound c issuer =
-    (history : List BaseRecord)
-    → IsCovered history issuer (option_lines_of c) (lines_of c) (proof_of c.value)
-    → NamesOne history issuer c.statements c.options no_label (proof_of c.value)
+-- A history of records names one issue of what is verified. Exactly one record has the accepted keys, and
+-- it holds of the document and its options. Where it is the record of an issue, the options are the issued
+-- ones up to blank nodes, and the document reveals a part of the issued one.
+pub record NamesOneIssue (history : List BaseRecord) (v : VerifyData) : Type 0 where
+  pub names : NamesOne history v
+  pub reveals : (issued options : LabelledDataset) (mandatory : List Statement)
+      → IsRecord issued options mandatory names.one
+      → Same v.options.statements options.statements
+        × Reveals v.document v.proof.indexes issued.statements mandatory
+
+-- What a yes says of every history of records that covers it.
+abbrev pub IsSound : Acceptance → VerifyCase → KeyName → Type 0
+IsSound accepts c issuer =
+    (history : List BaseRecord) → IsCovered history accepts (verify_data c issuer)
+    → NamesOneIssue history (verify_data c issuer)

@@ -8,9 +8,10 @@ ghost use Rattle.key_device.specs.declared.device.DeviceError.TheVariants.{Faile
 ghost use Rattle.nquads.specs.Terms.{Statement};
 ghost use Rattle.nquads.specs.Spelling.{text_quad};
 ghost use Rattle.proof_cbor.specs.Values.{IsDraft, CanWriteBase};
+ghost use Rattle.stmt_groups.specs.Datasets.{IsLabelled};
 ghost use Rattle.stmt_groups.specs.Records.{IsRecord};
 ghost use Rattle.vc_cli.specs.Requests.{with_proof};
-ghost use Rattle.vc_cli.specs.Issuing.{no_label, signed_bytes};
+ghost use Rattle.vc_cli.specs.Issuing.{signed_bytes, unlabelled};
 ghost use Rattle.vc_cli.specs.Answers.{Keeps};
 ghost use Rattle.vc_cli.specs.Internal.Drafts.{IsObject, IsPrintable, document_with};
 ghost use Rattle.vc_cli.specs.Internal.Stages.{Issues, no_signature, whole_value};
@@ -157,7 +158,8 @@ fn prepare(
     ensures key { IfOk result (λ d. d.base_record.key ≡ fresh.now.key) }
     ensures record_is { (q o : List Statement)
         → task.quads ≡ map text_quad q → task.option_quads ≡ map text_quad o
-        → IfOk result (λ d. IsRecord no_label no_label q q o d.base_record) }
+        → IsLabelled (unlabelled q) → IsLabelled (unlabelled o)
+        → IfOk result (λ d. IsRecord (unlabelled q) (unlabelled o) q d.base_record) }
     ensures bytes { IfOk result (λ d. d.bytes.items ≡ signed_bytes d.base_record) }
     ensures value { IfOk result (λ d.
         IsDraft (whole_value fresh.now.key.bytes fresh.now.secret no_signature) d.value) }
@@ -194,7 +196,8 @@ fn record(
     ensures key { IfOk result (λ made. made.key ≡ key) }
     ensures is { (q o : List Statement)
         → quads.now ≡ map text_quad q → option_quads.now ≡ map text_quad o
-        → IfOk result (λ made. IsRecord no_label no_label q q o made) }
+        → IsLabelled (unlabelled q) → IsLabelled (unlabelled o)
+        → IfOk result (λ made. IsRecord (unlabelled q) (unlabelled o) q made) }
 {
     let mandatory = lines_of(alloc, quads)?;
     let options = lines_of(alloc, option_quads)?;

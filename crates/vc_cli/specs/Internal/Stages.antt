@@ -154,7 +154,8 @@ IsCauseOf lines indexes (Some other) = ⊥
 abbrev pub Verifies :
     DeviceMeaning → DeviceMeaning → Tree → Result Verdict VerifyFault → Type 0
 Verifies before after r (Ok (verdict.Yes a)) =
-    (c : VerifyCase) × IsVerifyCase r c × IsYes before.accepts c a.issuer × IsSound c a.issuer
+    (c : VerifyCase) × IsVerifyCase r c × IsYes before.accepts c a.issuer
+    × IsSound before.accepts c a.issuer
     × (a.mandatory ≡ c.value.indexes) × (a.key ≡ key_name c.value.key)
     × (a.statements ≡ length c.statements)
 Verifies before after r (Ok (verdict.No why)) =
@@ -228,7 +229,8 @@ IsUnverifiedReply unverified.Memory r = r ≡ reply.Memory
 -- a yes to this request says what it should
 abbrev pub IsSoundReply : Tree → Acceptance → Reply → Type 0
 IsSoundReply r accepts (reply.Yes line) =
-    (c : VerifyCase) × (issuer : KeyName) × IsVerifyCase r c × IsYes accepts c issuer × IsSound c issuer
+    (c : VerifyCase) × (issuer : KeyName) × IsVerifyCase r c × IsYes accepts c issuer
+    × IsSound accepts c issuer
 IsSoundReply r accepts other = Unit {0}
 
 -- a yes to what was left says what it should

@@ -3,6 +3,7 @@ use Rattle.key_device.specs.Devices.{log_entry}
 use Rattle.key_device.specs.Tables.{key_for}
 use Rattle.vc_cli.specs.Internal.Stages.{no_signature, whole_value}
 use Rattle.vc_cli.proofs.IssuedProofs.{can_sign, grew_from, has_statements, issued_is, keeps_both, key_asked, no_quads, sign_keeps, statements_are, whole_count}
+use Rattle.vc_cli.proofs.FlatTexts.{flat_labelled}
 use Rattle.vc_cli.proofs.issuing.issue.Goals as goal
 
 pub returns-then-is_empty-clause-outcome : goal.returns-then-is_empty-clause-outcome
@@ -48,7 +49,8 @@ returns-in-Ok-sign-clause-outcome g c = λ r w.
           found
           made.issuer
           made.key
-          (made.record_is w.case_of.statements w.case_of.options w.quads w.option_quads)
+          (made.record_is w.case_of.statements w.case_of.options w.quads w.option_quads
+          (flat_labelled _ w.case_of.statements w.is_case.means w.are_statements) (flat_labelled _ w.case_of.options w.is_case.options_mean w.are_options))
           (c.deref.ensures.value ∙ made.bytes)
           signed.accepted
           (grew_from (log_entry c.in-Some.issuer c.deref.result.now signature) before (g.D.KeyDevice.means c.secret_and_key.new.device) after c.in-Ok.ensures.log signed.logged)

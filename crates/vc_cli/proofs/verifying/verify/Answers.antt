@@ -7,7 +7,7 @@ use Rattle.nquads.specs.Spelling.{text_quad}
 use Rattle.stmt_groups.specs.Records.{sign_data}
 use Rattle.vc_cli.specs.Internal.Stages.{IsCauseOf, ReadsPlain}
 use Rattle.vc_cli.specs.Verifying.{key_name, signature}
-use Rattle.vc_cli.proofs.Verdicts.{case_of, cause_is, checked_are, is_case_of, is_no, is_right, is_yes, no_memory, sound_of, value_failed}
+use Rattle.vc_cli.proofs.Verdicts.{case_of, cause_is, checked_are, is_case_of, is_good, is_no, is_right, is_yes, no_memory, sound_of, value_failed}
 use Rattle.vc_cli.proofs.verifying.verify.Goals as goal
 
 pub returns-in-Some-clause-outcome : goal.returns-in-Some-clause-outcome
@@ -63,14 +63,15 @@ returns-in-Ok-true-clause-outcome g c = λ r w.
     let same : bytes ≡ c.in_ok-bytes.bytes.items = c.deref.ensures.value in
     let made : c.in_ok-bytes.bytes.items ≡ sign_data c.as_slice-3.result.now (key_name value.key) c.as_slice-4.result.now = c.in_ok-bytes.ensures in
     let is : bytes ≡ sign_data option_lines (key_name value.key) lines = same ∙ made ∙ (λ i. sign_data (c.as_slice-3.ensures i) (key_name value.key) (c.as_slice-4.ensures i)) in
-    let checked = checked_are r task w value lines are plain.0 h option_lines bytes (c.in_ok-option_lines.ensures w.option_statements w.option_quads) is in
+    let checked = checked_are r task w value lines are plain.0 h accepts issuer found option_lines bytes (c.in_ok-option_lines.ensures w.option_statements w.option_quads) is in
     let answer : c.in-Ok-true.field-0 ≡ accepts issuer bytes (signature value.signature) = c.in-Ok-true.ensures.answer in
     let test : c.in-Ok-true.field-0 ≡ true = c.in-Ok-true.field-0-test in
+    let good = is_good r task w value lines are plain.0 h accepts issuer found bytes checked (sym test ∙ answer) in
     let counted : c.len.result ≡ length task.quads = c.len.ensures in (
       case_of r task w value,
       is_case_of r task w value reads plain,
-      is_yes r task w value lines are plain.0 h accepts issuer bytes checked found (sym test ∙ answer),
-      sound_of r task w value issuer,
+      is_yes r task w value lines are plain.0 h accepts issuer found good,
+      sound_of r task w value accepts issuer good,
       refl,
       refl,
       counted ∙ ap length w.quads ∙ length-map w.statements text_quad,
@@ -94,12 +95,12 @@ returns-in-Ok-false-clause-outcome g c = λ r w.
     let same : bytes ≡ c.in_ok-bytes.bytes.items = c.deref.ensures.value in
     let made : c.in_ok-bytes.bytes.items ≡ sign_data c.as_slice-3.result.now (key_name value.key) c.as_slice-4.result.now = c.in_ok-bytes.ensures in
     let is : bytes ≡ sign_data option_lines (key_name value.key) lines = same ∙ made ∙ (λ i. sign_data (c.as_slice-3.ensures i) (key_name value.key) (c.as_slice-4.ensures i)) in
-    let checked = checked_are r task w value lines are plain.0 h option_lines bytes (c.in_ok-option_lines.ensures w.option_statements w.option_quads) is in
+    let checked = checked_are r task w value lines are plain.0 h accepts issuer found option_lines bytes (c.in_ok-option_lines.ensures w.option_statements w.option_quads) is in
     let answer : c.in-Ok-false.field-0 ≡ accepts issuer bytes (signature value.signature) = c.in-Ok-false.ensures.answer in
     let test : c.in-Ok-false.field-0 ≡ false = c.in-Ok-false.field-0-test in (
       case_of r task w value,
       is_case_of r task w value reads plain,
-      is_no r task w value lines are plain.0 h accepts issuer bytes checked found (sym test ∙ answer),
+      is_no r task w value lines are plain.0 h accepts issuer found bytes checked (sym test ∙ answer),
     )
 
 pub returns-in-Err-Failed-clause-outcome : goal.returns-in-Err-Failed-clause-outcome
