@@ -247,3 +247,5 @@ pub ruleset statement_steps = (unread_answers, read_answers)
 pub ruleset issue_steps = (unread_answers, read_answers, issued_answers, unissued_answers, keeps_itself)
 
 pub ruleset verify_steps = (unread_answers, read_answers, unread_sound, read_sound, verified_answers, verified_sound, rejected_answers, rejected_sound, unverified_answers, unverified_sound, means_itself)
+
+pub ruleset watching = (means_itself)

@@ -18,7 +18,11 @@ mod requests;
 mod run;
 mod status;
 mod tasks;
+#[cfg(test)]
+mod tests;
 mod verifying;
+#[cfg(test)]
+mod watched_device;
 
 use key_device::{KeyName, LedgerDevice};
 use nquads::{Memory, Text};
