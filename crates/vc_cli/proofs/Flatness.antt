@@ -15,8 +15,8 @@ use Rattle.json_tree.proofs.Rising.{left_of, right_of}
 use Rattle.json_tree.proofs.TreeLemmas.{child_of-Object-Key, is_lawful-Text, members_lawful, members_of-Some, names_at-members}
 use Rattle.json_tree.proofs.Equations.{holds_version-Object, holds_version-Text, is_in_range-Object}
 use Rattle.ld_rdf.specs.Flat.{HasText, IsFlat, at_context, at_id, document_place}
-use Rattle.ld_rdf.specs.Reduced.{put_member, statements_request, taking}
-use Rattle.ld_rdf.proofs.Helpers.{option_map-Some, same_text, equal_text}
+use Rattle.ld_rdf.specs.Reduced.{put_member, statements_request, with_context}
+use Rattle.ld_rdf.proofs.OptionsAndLists.{option_map-Some, same_text, equal_text}
 use Rattle.ld_rdf.proofs.Shapes.{members_are_lawful}
 use Rattle.ld_rdf.proofs.Meaning.{value_at_member}
 use Rattle.vc_cli.specs.declared.requests.IssueRead.{IssueRead}
@@ -79,16 +79,16 @@ module _ (c d : Tree) (f : IsFlat (statements_request c d)) (lawful : is_lawful 
       }
 
 -- options, which take a context, are objects of texts themselves
-pub option_texts : (c o : Tree) (name : List ℕ) → IsFlat (statements_request c (taking name o)) → is_lawful o ≡ true → look (at at_context) o ≡ None → Texts o
+pub option_texts : (c o : Tree) (name : List ℕ) → IsFlat (statements_request c (with_context name o)) → is_lawful o ≡ true → look (at at_context) o ≡ None → Texts o
 option_texts c o name f lawful none =
     let x : Member Tree = new_member at_context (v.Text name) in
-    let found = flat_members c (taking name o) f.names f.document in
+    let found = flat_members c (with_context name o) f.names f.document in
     let inner = option_map-Some (put_member x) (members_of o) found.0 (sym (members_of-changed (put_member x) o) ∙ found.1) in
     let is_object : o ≡ v.Object inner.0 = members_of-Some o inner.0 inner.1 in
     let object_lawful : is_lawful (v.Object inner.0) ≡ true = ap is_lawful (sym is_object) ∙ lawful in
-    let taken_lawful : is_lawful (taking name o) ≡ true = ap (λ t. is_lawful (taking name t)) is_object ∙ with_member-lawful at_context (v.Text name) inner.0 (is_lawful-Text name) object_lawful in
-    let texts = flat_texts c (taking name o) f taken_lawful in
-    let same : texts.members ≡ put_member x inner.0 = same_some (members_of (taking name o)) texts.members (put_member x inner.0) texts.is (found.1 ∙ ap Some (sym inner.2)) in
+    let taken_lawful : is_lawful (with_context name o) ≡ true = ap (λ t. is_lawful (with_context name t)) is_object ∙ with_member-lawful at_context (v.Text name) inner.0 (is_lawful-Text name) object_lawful in
+    let texts = flat_texts c (with_context name o) f taken_lawful in
+    let same : texts.members ≡ put_member x inner.0 = same_some (members_of (with_context name o)) texts.members (put_member x inner.0) texts.is (found.1 ∙ ap Some (sym inner.2)) in
     let all = members_are_lawful o inner.0 lawful inner.1 in
     record {
       members = inner.0;

@@ -13,9 +13,9 @@ use Rattle.json_tree.specs.declared.place.Step.TheVariants.{Key}
 use Rattle.json_tree.specs.Places.{child_of, look, members_in, members_of, text_of, value_of}
 use Rattle.json_tree.proofs.TreeLemmas.{child_of-members, members_lawful, members_of-Object, members_of-Some, text_of-Some, text_of-Text}
 use Rattle.ld_rdf.specs.Flat.{HasText, at_context}
-use Rattle.ld_rdf.specs.Parts.{provided}
-use Rattle.ld_rdf.specs.Reduced.{changed, changed_in, without, without_key}
-use Rattle.ld_rdf.proofs.Helpers.{and_then-Some, provided-Some, map_or-true, same_text, equal_text}
+use Rattle.ld_rdf.specs.Internal.Parts.{only_if}
+use Rattle.ld_rdf.specs.Reduced.{with_members, with_members_in, without, without_key}
+use Rattle.ld_rdf.proofs.OptionsAndLists.{and_then-Some, provided-Some, map_or-true, same_text, equal_text}
 use Rattle.vc_cli.specs.Requests.{HasShape, at, value_name}
 use Rattle.vc_cli.specs.Internal.Parts.{has_form, has_text, lacks, method_in, text_under}
 
@@ -125,7 +125,7 @@ module _ (o : Tree) where
       (has_text-from (codes "cryptosuite") (codes "ecdsa-sd-2023") o f.suite_is)
       (ap is_some (text_under-from (codes "proofPurpose") o f.purpose f.purpose_is))
       (ap is_none f.no_created) (ap is_none f.no_expires) (ap is_none f.no_context) in
-      ap (λ b. provided b (text_under (codes "verificationMethod") o)) holds ∙ text_under-from (codes "verificationMethod") o method f.method_is
+      ap (λ b. only_if b (text_under (codes "verificationMethod") o)) holds ∙ text_under-from (codes "verificationMethod") o method f.method_is
 
 -- two trees have the same members but for the value
 abbrev pub SameBeside : List ℕ → Tree → Tree → Type 0
@@ -158,10 +158,10 @@ form_from t u method same s = record {
 
 -- ---- without a member
 
-pub members_of-changed : (f : List (Member Tree) → List (Member Tree)) (t : Tree) → members_of (changed f t) ≡ option_map f (members_of t)
+pub members_of-changed : (f : List (Member Tree) → List (Member Tree)) (t : Tree) → members_of (with_members f t) ≡ option_map f (members_of t)
 members_of-changed f t = by_level (out-Tree t) refl
   where
-    by_level : (x : Tree-F Tree) → out-Tree t ≡ x → members_of (changed_in f t x) ≡ option_map f (members_in x)
+    by_level : (x : Tree-F Tree) → out-Tree t ≡ x → members_of (with_members_in f t x) ≡ option_map f (members_in x)
     by_level Tree-F.Null e = ap members_in e
     by_level (Tree-F.Bool b) e = ap members_in e
     by_level (Tree-F.Whole z) e = ap members_in e
@@ -213,7 +213,7 @@ look_removed t key = look_at (without key t) key ∙ ap (option_and_then (value_
 pub without_absent : (key : List ℕ) (t : Tree) → look (at key) t ≡ None → without key t ≡ t
 without_absent key t none = by_level (out-Tree t) refl
   where
-    by_level : (x : Tree-F Tree) → out-Tree t ≡ x → changed_in (without_key key) t x ≡ t
+    by_level : (x : Tree-F Tree) → out-Tree t ≡ x → with_members_in (without_key key) t x ≡ t
     by_level Tree-F.Null e = refl
     by_level (Tree-F.Bool b) e = refl
     by_level (Tree-F.Whole z) e = refl

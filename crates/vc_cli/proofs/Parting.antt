@@ -12,9 +12,9 @@ use Rattle.key_device.specs.declared.table.KeyEntry.{KeyEntry}
 use Rattle.nquads.specs.Terms.{IsStatement, Statement}
 use Rattle.nquads.specs.Spelling.{text_quad}
 use Rattle.ld_rdf.specs.Flat.{IsFlat, IsFlatMeaning, Means, at_context}
-use Rattle.ld_rdf.specs.Parts.{provided}
-use Rattle.ld_rdf.specs.Reduced.{statements_request, taking, without}
-use Rattle.ld_rdf.proofs.Helpers.{and_then-Some, option_map-Some, provided-Some, same_text}
+use Rattle.ld_rdf.specs.Internal.Parts.{only_if}
+use Rattle.ld_rdf.specs.Reduced.{statements_request, with_context, without}
+use Rattle.ld_rdf.proofs.OptionsAndLists.{and_then-Some, option_map-Some, provided-Some, same_text}
 use Rattle.vc_cli.specs.declared.requests.IssueRead.{IssueRead}
 use Rattle.vc_cli.specs.declared.tasks.VerifyTask.{VerifyTask}
 use Rattle.vc_cli.specs.Requests.{HasShape, IsFlatIssue, IsFlatVerify, IsIssue, IsKeyTable, IsVerify, IssueParts, VerifyParts, at, issue_object, proof_name, value_name, whole_document}
@@ -151,7 +151,7 @@ module _ (r : Tree) where
       let n : text_under at_context p.document ≡ Some p.name = text_under-from at_context p.document p.name i.context_is in
       names_from (lacks proof_name p.document) (lacks value_name p.options) (text_under at_context p.document) (method_in p.options) p.name p.method a b n m
     where
-      names_from : (a b : Bool) (n m : Option (List ℕ)) (x y : List ℕ) → a ≡ true → b ≡ true → n ≡ Some x → m ≡ Some y → provided (a && b) (option_and_then (λ name. option_map (λ method. two_texts name method) m) n) ≡ Some (two_texts x y)
+      names_from : (a b : Bool) (n m : Option (List ℕ)) (x y : List ℕ) → a ≡ true → b ≡ true → n ≡ Some x → m ≡ Some y → only_if (a && b) (option_and_then (λ name. option_map (λ method. two_texts name method) m) n) ≡ Some (two_texts x y)
       names_from a b n m x y p q s t = rw (p, q, s, t) refl
 
   pub no_members : five_of r ≡ None → IsFlatIssue r → ⊥
@@ -182,21 +182,21 @@ module _ (r : Tree) where
         let flat : IsFlat (statements_request p.contexts (without proof_name p.document)) = subst (λ (t : Tree). IsFlat (statements_request p.contexts t)) (sym whole) f.are.document in
         never (subst (λ (t : Five). IsFlat (statements_request t.0 (without proof_name t.1))) (same_five p f.are) flat)
 
-    pub no_options : (name method : List ℕ) → issue_names d o ≡ Some (name, method) → (IsFlat (statements_request c (taking name (without value_name o))) → ⊥) → IsFlatIssue r → ⊥
+    pub no_options : (name method : List ℕ) → issue_names d o ≡ Some (name, method) → (IsFlat (statements_request c (with_context name (without value_name o))) → ⊥) → IsFlatIssue r → ⊥
     no_options name method named never f =
         let p = f.parts in
         let pair : two_texts p.name p.method ≡ two_texts name method = same_some (issue_names d o) (two_texts p.name p.method) (two_texts name method) (same_names p f.are) named in
         let whole : without value_name p.options ≡ p.options = without_absent value_name p.options f.are.shape.no_value in
-        let flat : IsFlat (statements_request p.contexts (taking p.name (without value_name p.options))) = subst (λ (t : Tree). IsFlat (statements_request p.contexts (taking p.name t))) (sym whole) f.are.options in
-        let here : IsFlat (statements_request c (taking p.name (without value_name o))) = subst (λ (t : Five). IsFlat (statements_request t.0 (taking p.name (without value_name t.4)))) (same_five p f.are) flat in
-        never (subst (λ (n : List ℕ × List ℕ). IsFlat (statements_request c (taking n.0 (without value_name o)))) pair here)
+        let flat : IsFlat (statements_request p.contexts (with_context p.name (without value_name p.options))) = subst (λ (t : Tree). IsFlat (statements_request p.contexts (with_context p.name t))) (sym whole) f.are.options in
+        let here : IsFlat (statements_request c (with_context p.name (without value_name o))) = subst (λ (t : Five). IsFlat (statements_request t.0 (with_context p.name (without value_name t.4)))) (same_five p f.are) flat in
+        never (subst (λ (n : List ℕ × List ℕ). IsFlat (statements_request c (with_context n.0 (without value_name o)))) pair here)
 
     pub read_from : (t : IssueRead) (name method : List ℕ) (q u : List Statement) → m ≡ whole_document → issue_names d o ≡ Some (name, method)
         → IsKeyTable k t.keys.entries
         → IsFlat (statements_request c (without proof_name d)) → IsFlatMeaning (statements_request c (without proof_name d)) q → t.quads ≡ map text_quad q
         → ((s : Statement) → Means (statements_request c (without proof_name d)) s → IsStatement s)
-        → IsFlat (statements_request c (taking name (without value_name o))) → IsFlatMeaning (statements_request c (taking name (without value_name o))) u → t.option_quads ≡ map text_quad u
-        → ((s : Statement) → Means (statements_request c (taking name (without value_name o))) s → IsStatement s)
+        → IsFlat (statements_request c (with_context name (without value_name o))) → IsFlatMeaning (statements_request c (with_context name (without value_name o))) u → t.option_quads ≡ map text_quad u
+        → ((s : Statement) → Means (statements_request c (with_context name (without value_name o))) s → IsStatement s)
         → t.method ≡ method → IsIssueRead r t
     read_from t name method q u whole named table flat means spells each oflat omeans ospells oeach method_is =
         let given = provided-Some (lacks proof_name d && lacks value_name o) (option_and_then (λ (n : List ℕ). option_map (λ y. two_texts n y) (method_in o)) (text_under at_context d)) (two_texts name method) named in
@@ -220,12 +220,12 @@ module _ (r : Tree) where
               document = subst (λ (x : Tree). IsFlat (statements_request c x)) d_whole flat;
               no_proof = no_proof;
               context_is = text_under-Some at_context d name (outer.1 ∙ ap Some name_is);
-              options = subst (λ (x : Tree). IsFlat (statements_request c (taking name x))) o_whole oflat;
+              options = subst (λ (x : Tree). IsFlat (statements_request c (with_context name x))) o_whole oflat;
               shape = shape;
               table = table;
             };
             means = subst (λ (x : Tree). IsFlatMeaning (statements_request c x) q) d_whole means;
-            options_mean = subst (λ (x : Tree). IsFlatMeaning (statements_request c (taking name x)) u) o_whole omeans;
+            options_mean = subst (λ (x : Tree). IsFlatMeaning (statements_request c (with_context name x)) u) o_whole omeans;
           };
           method = method_is;
           keys = refl;
@@ -272,19 +272,19 @@ module _ (r : Tree) where
     pub no_body : (IsFlat (statements_request c (without proof_name d)) → ⊥) → IsFlatVerify r → ⊥
     no_body never f = never (subst (λ (t : Three). IsFlat (statements_request t.0 (without proof_name t.1))) (same_three f.parts f.are) f.are.document)
 
-    pub no_proof_options : (proof : Tree) (name method value : List ℕ) → proof_parts d ≡ Some (proof, name, method, value) → (IsFlat (statements_request c (taking name (without value_name proof))) → ⊥) → IsFlatVerify r → ⊥
+    pub no_proof_options : (proof : Tree) (name method value : List ℕ) → proof_parts d ≡ Some (proof, name, method, value) → (IsFlat (statements_request c (with_context name (without value_name proof))) → ⊥) → IsFlatVerify r → ⊥
     no_proof_options proof name method value parted never f =
         let p = f.parts in
         let e : fours p.proof p.name p.method p.value ≡ fours proof name method value = same_some (proof_parts d) (fours p.proof p.name p.method p.value) (fours proof name method value) (same_parts p f.are) parted in
-        let here : IsFlat (statements_request c (taking p.name (without value_name p.proof))) = subst (λ (t : Three). IsFlat (statements_request t.0 (taking p.name (without value_name p.proof)))) (same_three p f.are) f.are.options in
-        never (subst (λ (n : Tree × List ℕ × List ℕ × List ℕ). IsFlat (statements_request c (taking n.1 (without value_name n.0)))) e here)
+        let here : IsFlat (statements_request c (with_context p.name (without value_name p.proof))) = subst (λ (t : Three). IsFlat (statements_request t.0 (with_context p.name (without value_name p.proof)))) (same_three p f.are) f.are.options in
+        never (subst (λ (n : Tree × List ℕ × List ℕ × List ℕ). IsFlat (statements_request c (with_context n.1 (without value_name n.0)))) e here)
 
     pub task_from : (t : VerifyTask) (proof : Tree) (name method value : List ℕ) (q u : List Statement) → proof_parts d ≡ Some (proof, name, method, value)
         → IsKeyTable k t.keys.entries
         → IsFlat (statements_request c (without proof_name d)) → IsFlatMeaning (statements_request c (without proof_name d)) q → t.quads ≡ map text_quad q
         → ((s : Statement) → Means (statements_request c (without proof_name d)) s → IsStatement s)
-        → IsFlat (statements_request c (taking name (without value_name proof))) → IsFlatMeaning (statements_request c (taking name (without value_name proof))) u → t.option_quads ≡ map text_quad u
-        → ((s : Statement) → Means (statements_request c (taking name (without value_name proof))) s → IsStatement s)
+        → IsFlat (statements_request c (with_context name (without value_name proof))) → IsFlatMeaning (statements_request c (with_context name (without value_name proof))) u → t.option_quads ≡ map text_quad u
+        → ((s : Statement) → Means (statements_request c (with_context name (without value_name proof))) s → IsStatement s)
         → t.method ≡ method → t.value ≡ value → IsVerifyTask r t
     task_from t proof name method value q u parted table flat means spells each oflat omeans ospells oeach method_is value_is =
         let f0 = and_then-Some (λ (x : Tree). option_and_then (λ n. option_and_then (λ y. option_map (λ w. fours x n y w) (text_under value_name x)) (method_in x)) (text_under at_context d)) (look (at proof_name) d) (fours proof name method value) parted in

@@ -15,8 +15,8 @@ use Rattle.json_tree.specs.Trees.{each_next, new_member, holds_version, is_befor
 use Rattle.json_tree.proofs.Rising.{NamesRise, left_of, right_of, both_hold, is_before-differs}
 use Rattle.json_tree.proofs.TreeLemmas.{is_lawful-Object, is_lawful-Text}
 use Rattle.json_tree.proofs.Equations.{is_in_range-Object, is_in_range-Text, holds_version-Object, holds_version-Text}
-use Rattle.ld_rdf.specs.Reduced.{changed_in, put_member, with_member}
-use Rattle.ld_rdf.proofs.Helpers.{same_text, equal_text}
+use Rattle.ld_rdf.specs.Reduced.{with_members_in, put_member, with_member}
+use Rattle.ld_rdf.proofs.OptionsAndLists.{same_text, equal_text}
 use Rattle.vc_cli.specs.Internal.Drafts.{IsObject, IsPrintable, with_value_at, place_of}
 
 -- ---- the order of names
@@ -101,7 +101,7 @@ module _ (x : Member Tree) where
 -- ---- objects with a member more
 
 pub with_member-Object : (key : List ℕ) (value : Tree) (ms : List (Member Tree)) → with_member key value (v.Object ms) ≡ v.Object (put_member (new_member key value) ms)
-with_member-Object key value ms = ap (changed_in (put_member (new_member key value)) (v.Object ms)) (v.outs-Object ms)
+with_member-Object key value ms = ap (with_members_in (put_member (new_member key value)) (v.Object ms)) (v.outs-Object ms)
 
 pub with_member-lawful : (key : List ℕ) (value : Tree) (ms : List (Member Tree)) → is_lawful value ≡ true → is_lawful (v.Object ms) ≡ true → is_lawful (with_member key value (v.Object ms)) ≡ true
 with_member-lawful key value ms one all =

@@ -11,7 +11,7 @@ use Rattle.json_tree.specs.Places.{look}
 use Rattle.json_tree.specs.Trees.{element, new_member}
 use Rattle.key_device.specs.declared.table.KeyEntry.{KeyEntry}
 use Rattle.ld_rdf.specs.Flat.{HasText, IsFlat, at_context}
-use Rattle.ld_rdf.specs.Reduced.{statements_request, taking, with_member, without}
+use Rattle.ld_rdf.specs.Reduced.{statements_request, with_context, with_member, without}
 
 -- the place of a member of the root
 abbrev pub at : List ℕ → List Step
@@ -78,7 +78,7 @@ abbrev pub issue_body : IssueParts → Tree
 issue_body p = statements_request p.contexts p.document
 
 abbrev pub issue_options : IssueParts → Tree
-issue_options p = statements_request p.contexts (taking p.name p.options)
+issue_options p = statements_request p.contexts (with_context p.name p.options)
 
 -- A flat request for issuing: exactly these members, every statement mandatory, a flat document without
 -- a proof, and flat options of the right shape.
@@ -126,7 +126,7 @@ abbrev pub verify_body : VerifyParts → Tree
 verify_body p = statements_request p.contexts (without proof_name p.document)
 
 abbrev pub verify_options : VerifyParts → Tree
-verify_options p = statements_request p.contexts (taking p.name (options_of p))
+verify_options p = statements_request p.contexts (with_context p.name (options_of p))
 
 -- A flat request for verifying: exactly these members, a document that is flat without its proof, and
 -- a proof with a value whose options are flat and of the right shape.

@@ -9,7 +9,7 @@ use Rattle.json_tree.specs.Places.{look, members_of, text_of}
 use Rattle.nquads.specs.Terms.{IsStatement}
 use Rattle.nquads.specs.Spelling.{text_quad}
 use Rattle.ld_rdf.specs.Flat.{at_context}
-use Rattle.ld_rdf.specs.Parts.{provided}
+use Rattle.ld_rdf.specs.Internal.Parts.{only_if}
 use Rattle.vc_cli.specs.Requests.{at, proof_name, value_name}
 use Rattle.vc_cli.specs.Issuing.{IsIssueCase, IssueCase}
 use Rattle.vc_cli.specs.declared.requests.IssueRead.{IssueRead}
@@ -22,7 +22,7 @@ five_in (c ∷ d ∷ []) = None
 five_in (c ∷ d ∷ k ∷ []) = None
 five_in (c ∷ d ∷ k ∷ m ∷ []) = None
 five_in (c ∷ d ∷ k ∷ m ∷ o ∷ []) =
-    provided (
+    only_if (
       bytes_eq c.key (codes "contexts") && bytes_eq d.key (codes "document")
       && bytes_eq k.key (codes "keys") && bytes_eq m.key (codes "mandatory")
       && bytes_eq o.key (codes "options"))
@@ -38,7 +38,7 @@ three_in [] = None
 three_in (c ∷ []) = None
 three_in (c ∷ d ∷ []) = None
 three_in (c ∷ d ∷ k ∷ []) =
-    provided (
+    only_if (
       bytes_eq c.key (codes "contexts") && bytes_eq d.key (codes "document")
       && bytes_eq k.key (codes "keys"))
     (Some (c.value, d.value, k.value))
@@ -67,12 +67,12 @@ has_form o =
 
 -- the verification method of options of that form
 abbrev pub method_in : Tree → Option (List ℕ)
-method_in o = provided (has_form o) (text_under (codes "verificationMethod") o)
+method_in o = only_if (has_form o) (text_under (codes "verificationMethod") o)
 
 -- the name of the context and the method, of a document without a proof and options without a value
 abbrev pub issue_names : Tree → Tree → Option (List ℕ × List ℕ)
 issue_names d o =
-    provided (lacks proof_name d && lacks value_name o)
+    only_if (lacks proof_name d && lacks value_name o)
     (option_and_then (λ name. option_map (λ method. (name, method)) (method_in o))
       (text_under at_context d))
 
