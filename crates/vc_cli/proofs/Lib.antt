@@ -11,3 +11,4 @@ pub mod StageReplies
 pub mod CommandWords
 pub mod IssuedProofs
 pub mod ReplyTexts
+pub mod WellPlaced

@@ -18,7 +18,8 @@ use Rattle.key_device.specs.Tables.{key_for}
 use Rattle.nquads.specs.Terms.{Statement}
 use Rattle.nquads.specs.Lines.{canonical_lines, line}
 use Rattle.proof_cbor.specs.declared.value.DerivedValue.{DerivedValue}
-use Rattle.proof_cbor.specs.Reading.{reading_derived}
+use Rattle.proof_cbor.specs.Refusals.{RefusesDerived}
+use Rattle.proof_cbor.specs.Values.{SpellsDerived}
 use Rattle.stmt_groups.specs.declared.types.Cause.{Cause}
 use Rattle.stmt_groups.specs.declared.types.Cause.TheVariants as cause
 use Rattle.stmt_groups.specs.Lines.{lines_at, other_lines}
@@ -99,9 +100,9 @@ module _ (r : Tree) (t : VerifyTask) (w : IsVerifyTask r t) (value : DerivedValu
   abbrev pub case_of : VerifyCase
   case_of = record { parts = w.parts; statements = w.statements; options = w.option_statements; value = value }
 
-  module _ (reads : reading_derived t.value ≡ Ok value) (plain : IsPlainValue value) where
+  module _ (spells : SpellsDerived value t.value) (plain : IsPlainValue value) where
     pub is_case_of : IsVerifyCase r case_of
-    is_case_of = record { are = w.are; means = w.means; options_mean = w.options_mean; reads = ap reading_derived (sym w.value) ∙ reads; plain = plain }
+    is_case_of = record { are = w.are; means = w.means; options_mean = w.options_mean; spells = subst (SpellsDerived value) w.value spells; plain = plain }
 
   -- a good proof is sound
   pub sound_of : (accepts : Acceptance) (issuer : KeyName) → IsGood accepts (verify_data case_of issuer) → IsSound accepts case_of issuer
@@ -175,8 +176,8 @@ module _ (r : Tree) (t : VerifyTask) (w : IsVerifyTask r t) (value : DerivedValu
 
 -- a value that is none, or not plain
 pub value_refused : (before after : DeviceMeaning) (r : Tree) (t : VerifyTask) (w : IsVerifyTask r t) (why : VerifyFault) → ReadsPlain t.value (Err why) → Verifies before after r (Err why)
-value_refused before after r t w unverified.NotBuilt h = (w.parts, h.0, w.are, ap reading_derived (sym w.value) ∙ h.1, h.2)
-value_refused before after r t w (unverified.Value why) h = (w.parts, w.are, ap reading_derived (sym w.value) ∙ h)
+value_refused before after r t w unverified.NotBuilt h = (w.parts, h.0, w.are, subst (SpellsDerived h.0) w.value h.1, h.2)
+value_refused before after r t w (unverified.Value why) h = (w.parts, w.are, subst (λ (text : List ℕ). RefusesDerived text why) w.value h)
 value_refused before after r t w unverified.Memory h = tt
 value_refused before after r t w other h = absurd h
 

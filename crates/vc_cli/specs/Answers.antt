@@ -19,7 +19,8 @@ use Rattle.key_device.specs.Devices.{Acceptance, CountsFault, DeviceMeaning, Sti
 use Rattle.key_device.specs.Tables.{key_for}
 use Rattle.proof_cbor.specs.declared.fault.ValueFault.{ValueFault}
 use Rattle.proof_cbor.specs.declared.value.DerivedValue.{DerivedValue}
-use Rattle.proof_cbor.specs.Reading.{reading_derived}
+use Rattle.proof_cbor.specs.Refusals.{RefusesDerived}
+use Rattle.proof_cbor.specs.Values.{SpellsDerived}
 use Rattle.stmt_groups.specs.declared.types.BaseRecord.{BaseRecord}
 use Rattle.stmt_groups.specs.declared.types.Cause.{Cause}
 use Rattle.vc_cli.specs.Replies.{bytes_of, input_limit, status_of}
@@ -86,10 +87,10 @@ abbrev pub VerifyAnswers : DeviceMeaning → DeviceMeaning → Tree → Reply �
 VerifyAnswers before after r reply.NotBuilt =
     (IsFlatVerify r → ⊥)
     ⊎ ((p : VerifyParts) × (value : DerivedValue) × IsVerify r p
-      × (reading_derived p.value ≡ Ok value) × (IsPlainValue value → ⊥))
+      × SpellsDerived value p.value × (IsPlainValue value → ⊥))
 VerifyAnswers before after r (reply.ProofValue line) =
     (p : VerifyParts) × (fault : ValueFault) × IsVerify r p
-    × (reading_derived p.value ≡ Err fault)
+    × RefusesDerived p.value fault
     × (line ≡ line_of (proof_value_tree fault))
 VerifyAnswers before after r (reply.No line) =
     (c : VerifyCase) × (why : Cause) × IsVerifyCase r c

@@ -9,7 +9,7 @@ use Rattle.nquads.specs.Terms.{Statement}
 use Rattle.nquads.specs.Lines.{canonical_lines}
 use Rattle.nquads.specs.Renaming.{Same}
 use Rattle.proof_cbor.specs.declared.value.DerivedValue.{DerivedValue}
-use Rattle.proof_cbor.specs.Reading.{reading_derived}
+use Rattle.proof_cbor.specs.Values.{SpellsDerived}
 use Rattle.ld_rdf.specs.Flat.{IsFlatMeaning}
 use Rattle.stmt_groups.specs.declared.types.BaseRecord.{BaseRecord}
 use Rattle.stmt_groups.specs.declared.types.Cause.{Cause}
@@ -53,7 +53,7 @@ pub record IsVerifyCase (r : Tree) (c : VerifyCase) : Type 0 where
   pub are : IsVerify r c.parts
   pub means : IsFlatMeaning (verify_body c.parts) c.statements
   pub options_mean : IsFlatMeaning (verify_options c.parts) c.options
-  pub reads : reading_derived c.parts.value ≡ Ok c.value
+  pub spells : SpellsDerived c.value c.parts.value
   pub plain : IsPlainValue c.value
 
 -- the canonical lines of its statements

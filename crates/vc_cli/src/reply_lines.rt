@@ -49,6 +49,7 @@ fn key_field(alloc: Global, name: &str, key: &KeyName) -> Result<Member, Memory>
 }
 
 /// The tree as a line of compact JSON.
+#[tactic(auto, using(crate::proofs::WellPlaced::printing))]
 fn line(alloc: Global, tree: &Tree) -> Result<Sequence<u8>, Memory>
     requires { IsPrintable tree.now }
     ensures { IfOk result (λ line. line ≡ line_of tree.now) }

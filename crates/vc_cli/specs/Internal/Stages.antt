@@ -16,7 +16,8 @@ use Rattle.key_device.specs.Tables.{key_for}
 use Rattle.proof_cbor.specs.declared.fault.ValueFault.{ValueFault}
 use Rattle.proof_cbor.specs.declared.value.BaseValue.{BaseValue}
 use Rattle.proof_cbor.specs.declared.value.DerivedValue.{DerivedValue}
-use Rattle.proof_cbor.specs.Reading.{reading_derived}
+use Rattle.proof_cbor.specs.Refusals.{RefusesDerived}
+use Rattle.proof_cbor.specs.Values.{SpellsDerived}
 use Rattle.stmt_groups.specs.declared.types.BaseRecord.{BaseRecord}
 use Rattle.stmt_groups.specs.declared.types.Cause.{Cause}
 use Rattle.stmt_groups.specs.declared.types.Cause.TheVariants as cause
@@ -132,10 +133,10 @@ SignsFor r before after other = after.log ≡ before.log
 -- what a text is read as: a value for statements that are all mandatory, another value, or none
 abbrev pub ReadsPlain : List ℕ → Result DerivedValue VerifyFault → Type 0
 ReadsPlain text (Ok value) =
-    (reading_derived text ≡ Ok value) × IsPlainValue value × (rise value.indexes ≡ true)
+    SpellsDerived value text × IsPlainValue value × (rise value.indexes ≡ true)
 ReadsPlain text (Err unverified.NotBuilt) =
-    (value : DerivedValue) × (reading_derived text ≡ Ok value) × (IsPlainValue value → ⊥)
-ReadsPlain text (Err (unverified.Value why)) = reading_derived text ≡ Err why
+    (value : DerivedValue) × SpellsDerived value text × (IsPlainValue value → ⊥)
+ReadsPlain text (Err (unverified.Value why)) = RefusesDerived text why
 ReadsPlain text (Err unverified.Memory) = Unit {0}
 ReadsPlain text (Err other) = ⊥
 
@@ -162,9 +163,9 @@ Verifies before after r (Ok (verdict.No why)) =
     (c : VerifyCase) × IsVerifyCase r c × HasCause before.accepts c why
 Verifies before after r (Err unverified.NotBuilt) =
     (p : VerifyParts) × (value : DerivedValue) × IsVerify r p
-    × (reading_derived p.value ≡ Ok value) × (IsPlainValue value → ⊥)
+    × SpellsDerived value p.value × (IsPlainValue value → ⊥)
 Verifies before after r (Err (unverified.Value why)) =
-    (p : VerifyParts) × IsVerify r p × (reading_derived p.value ≡ Err why)
+    (p : VerifyParts) × IsVerify r p × RefusesDerived p.value why
 Verifies before after r (Err (unverified.UnknownMethod method)) =
     (c : VerifyCase) × IsVerifyCase r c × IsRight c
     × (key_for c.parts.table c.parts.method ≡ None) × (method ≡ c.parts.method)
