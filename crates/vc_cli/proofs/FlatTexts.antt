@@ -1,5 +1,5 @@
 -- Texts and lines of statements without blank nodes, for which no label is looked up.
-use Rattle.std.proofs.Common.{◌≡◌, ℕ, List, [], ◌∷◌, ◌++◌, All, Result, IfOk, sym, ap, ◌∙◌, subst, Contains}
+use Rattle.std.proofs.Common.{◌≡◌, ℕ, List, [], ◌∷◌, ◌++◌, All, sym, ap, ◌∙◌, subst, Contains}
 use Rattle.std.specs.List.{flat_map}
 use Rattle.base_types.specs.Sets.{SameElements}
 use Rattle.base_types.proofs.Lists.{Contains-here, Contains-nil, Contains-there}
@@ -23,8 +23,8 @@ pub same_from : {X : Type 0} (xs ys : List X) → xs ≡ ys → SameElements xs 
 same_from {X} xs ys is = λ x. (λ c. subst (λ (zs : List X). Contains zs x) is c, λ c. subst (λ (zs : List X). Contains zs x) (sym is) c)
 
 -- so are the lines
-pub lines_without : {E : Type 0} (labels : List TextLabel) (q : List Statement) (lines : Result (List (List ℕ)) E) → labels ≡ [] → IfOk lines (λ ls. ls ≡ canonical_lines (label_in labels) q) → IfOk lines (λ ls. ls ≡ canonical_lines no_label q)
-lines_without labels q lines none are = subst (λ (l : List TextLabel). IfOk lines (λ ls. ls ≡ canonical_lines (label_in l) q)) none are
+pub lines_without : (labels : List TextLabel) (q : List Statement) (lines : List (List ℕ)) → labels ≡ [] → lines ≡ canonical_lines (label_in labels) q → lines ≡ canonical_lines no_label q
+lines_without labels q lines none is = rw none at is
 
 -- ---- labels of statements without blank nodes
 

@@ -1,5 +1,6 @@
 -- The replies that are made without memory are the lines of their trees.
 use Rattle.std.proofs.Common.{◌≡◌, ℕ, pos, List, [], ◌∷◌, ◌++◌, map, sym, ap, ◌∙◌, codes}
+use Rattle.std.specs.Fmt.{digits}
 use Rattle.json.specs.Print.{escape_byte}
 use Rattle.serde_json.specs.Data.{Data, object, string, number, member, no_members}
 use Rattle.serde_json.specs.Find.{of_integer}
@@ -63,11 +64,11 @@ unfolding escape_byte
 memory_line = sym (plain_line (codes "Memory"))
 
 pub too_long_line : codes "{\"refused\":{\"limit\":8388608,\"name\":\"TooLong\"}}\n" ≡ line_of (limit_refusal input_limit (codes "TooLong"))
-unfolding escape_byte
+unfolding escape_byte digits
 too_long_line = sym (limit_line input_limit (codes "TooLong"))
 
 pub too_deep_line : codes "{\"refused\":{\"limit\":100,\"name\":\"TreeTooDeep\"}}\n" ≡ line_of (limit_refusal depth_limit (codes "TreeTooDeep"))
-unfolding escape_byte
+unfolding escape_byte digits
 too_deep_line = sym (limit_line depth_limit (codes "TreeTooDeep"))
 
 pub ruleset reply_lines = (not_json_line, not_built_line, no_statements_line, device_fault_line, read_fault_line, memory_line, too_long_line, too_deep_line)

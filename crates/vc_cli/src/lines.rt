@@ -19,7 +19,9 @@ pub(crate) fn lines_of(alloc: Global, quads: &TextQuads) -> Result<Sequence<Text
     ensures { (q : List Statement) → quads.now ≡ map text_quad q
         → IfOk result (λ lines. lines ≡ canonical_lines no_label q) }
 {
-    nquads::canonical_lines(alloc, quads, &TextLabels::new(alloc))
+    let labels = TextLabels::new(alloc);
+    let lines = nquads::canonical_lines(alloc, quads, &labels)?;
+    Ok(lines)
 }
 
 /// The SHA-256 digest of the lines, one after another.

@@ -1,11 +1,12 @@
 //! Verifying a derived proof (Data Integrity ECDSA Cryptosuites 1.0, verify derived proof) in which every
 //! statement is mandatory.
 
-ghost use Rattle.std.specs.Prelude.{◌≡◌, ◌↔◌, ◌≤◌, true, List, [], All, map, IfOk, IsTrue, length, nat_le};
+ghost use Rattle.std.specs.Prelude.{◌≡◌, ◌≢◌, ◌↔◌, ◌≤◌, true, false, List, [], All, map, IfOk, IsTrue, length, nat_le};
 ghost use Rattle.std.specs.List.{position};
 ghost use Rattle.base_types.specs.Order.{rise};
 ghost use Rattle.json_tree.specs.declared.tree.Tree.{Tree as AnyTree};
 ghost use Rattle.key_device.specs.Devices.{MeansSame};
+ghost use Rattle.proof_cbor.specs.declared.fault.ValueFault.TheVariants as value_fault;
 ghost use Rattle.vc_cli.specs.Internal.Stages.{IsCauseOf, ReadsPlain, Verifies};
 ghost use Rattle.vc_cli.specs.Internal.Tasks.{IsVerifyTask};
 ghost use Rattle.vc_cli.specs.Verifying.{IsPlainValue};
@@ -111,8 +112,23 @@ fn plain_value(alloc: Global, text: &str) -> Result<DerivedValue, VerifyFault>
             }
             Ok(value)
         }
-        Err(ValueFault::Memory | ValueFault::Cbor(CborFault::Memory)) => Err(VerifyFault::Memory),
-        Err(fault) => Err(VerifyFault::Value(fault)),
+        Err(fault) => {
+            if is_out_of_memory(&fault) {
+                return Err(VerifyFault::Memory);
+            }
+            Err(VerifyFault::Value(fault))
+        }
+    }
+}
+
+/// Whether a value was not read because there was no memory.
+fn is_out_of_memory(fault: &ValueFault) -> bool
+    ensures { result ≡ false → fault.now ≢ value_fault.Memory }
+{
+    match fault {
+        ValueFault::Memory | ValueFault::Cbor(CborFault::Memory) => true,
+        ValueFault::NotMultibase | ValueFault::Header | ValueFault::Cbor(_) => false,
+        ValueFault::Shape(_) | ValueFault::Length(_) | ValueFault::Indexes => false,
     }
 }
 

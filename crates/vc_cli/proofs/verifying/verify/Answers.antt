@@ -40,6 +40,16 @@ returns-in_err-value-clause-outcome g c = λ r w.
     let h : ReadsPlain c.args.task.value (Err c.in_err-value.field-0.0) = subst (λ (text : List ℕ). ReadsPlain text (Err c.in_err-value.field-0.0)) c.as_str.ensures c.in_err-value.ensures in
     value_failed device device r c.args.task w c.from_residual.result c.in_err-value.field-0.0 c.from_residual.ensures.1 h
 
+pub returns-in_err-lines-clause-outcome : goal.returns-in_err-lines-clause-outcome
+returns-in_err-lines-clause-outcome g c = λ r w.
+    let device = g.D.KeyDevice.means c.args.device.now in
+    no_memory device device r c.from_residual-in_err-lines.result c.from_residual-in_err-lines.ensures.1
+
+pub returns-in_err-option_lines-clause-outcome : goal.returns-in_err-option_lines-clause-outcome
+returns-in_err-option_lines-clause-outcome g c = λ r w.
+    let device = g.D.KeyDevice.means c.args.device.now in
+    no_memory device device r c.from_residual-in_err-option_lines.result c.from_residual-in_err-option_lines.ensures.1
+
 pub returns-in_err-bytes-clause-outcome : goal.returns-in_err-bytes-clause-outcome
 returns-in_err-bytes-clause-outcome g c = λ r w.
     let device = g.D.KeyDevice.means c.args.device.now in
