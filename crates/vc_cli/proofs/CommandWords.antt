@@ -43,16 +43,19 @@ apart ws us differ e = true≢false (sym (same (first_letter us)) ∙ ap (λ (x 
     same : (n : ℕ) → nat_eq n n ≡ true
     same n = grind (arith, nat_tests)
 
+-- the word `statements` is not `verify`
 pub statements_not_verify : (words : List (List ℕ)) → IsStatements words → IsVerifyCommand words → ⊥
 unfolding first_letter
 statements_not_verify words a b = apart (codes "statements" ∷ []) (codes "verify" ∷ []) refl (sym a ∙ b)
 
+-- the word `issue` is not `verify`
 pub issue_not_verify : (words : List (List ℕ)) → IsIssueCommand words → IsVerifyCommand words → ⊥
 unfolding first_letter
 issue_not_verify words a b = apart (codes "issue" ∷ []) (codes "verify" ∷ []) refl (sym a ∙ b)
 
 -- ---- no word of the three
 
+-- words that are none of the three are no command
 pub no_command : (words : List (List ℕ)) → (IsStatements words → ⊥) → (IsIssueCommand words → ⊥) → (IsVerifyCommand words → ⊥) → IsCommand words → ⊥
 no_command words a b c h = elim h [
   | inl s ↦ a s
@@ -64,9 +67,11 @@ no_command words a b c h = elim h [
 
 -- ---- what a test of the words told
 
+-- what a test tells holds where it says yes
 pub is_told : (A : Type 0) (said : Bool) → said ≡ true → (IsTrue said → A) × (A → IsTrue said) → A
 is_told A said is test = test.0 is
 
+-- what a test tells does not hold where it says no
 pub not_told : (A : Type 0) (said : Bool) → said ≡ false → (IsTrue said → A) × (A → IsTrue said) → A → ⊥
 not_told A said is test a = true≢false (sym (test.1 a) ∙ is)
 

@@ -112,9 +112,11 @@ none_texts (m ∷ ms) h =
     let none : holds_version m.value ≡ false = ap holds_version e.1 ∙ holds_version-Text e.0 in
     rw none (none_texts ms (λ n c. h n (Contains-there m ms n c)))
 
+-- a tree of texts is an object
 pub texts_object : (t : Tree) → Texts t → IsObject t
 texts_object t x = record { members = x.members; is = members_of-Some t x.members x.is }
 
+-- a lawful tree of texts is printed as it is
 pub texts_printable : (t : Tree) → Texts t → is_lawful t ≡ true → is_in_range t ≡ true → IsPrintable t
 texts_printable t x lawful small = record {
   lawful = lawful;
@@ -140,6 +142,7 @@ pub record Held (d o : Tree) : Type 0 where
   pub lawful : (is_lawful d ≡ true) × (is_lawful o ≡ true)
   pub in_range : (is_in_range d ≡ true) × (is_in_range o ≡ true)
 
+-- what a read request holds can be issued
 pub held : (r : Tree) (read : IssueRead) (x : IsIssueRead r read) → is_lawful r ≡ true → is_in_range r ≡ true → Held x.case_of.parts.document x.case_of.parts.options
 held r read x lawful small =
     let p = x.case_of.parts in

@@ -63,11 +63,13 @@ module _ (key secret signature : List ℕ) where
         is_spelled (base_item value) (encoding_of (base_item value)) [] refl refl (whole_fits long key_long secret_long) (base_rises value (base_item value) refl) (base_nests value (base_item value) refl),
       )
 
+-- a value that can be written can with another signature
 pub can_sign : (key secret old signature : List ℕ) → CanWriteBase (whole_value key secret old) → length signature ≡ 64 → CanWriteBase (whole_value key secret signature)
 can_sign key secret old signature can long = whole_can key secret signature long can.0.key can.0.secret
 
 -- ---- the record
 
+-- where every statement is mandatory there is no other
 pub whole_split : (q : List Statement) → IsSplit q q []
 whole_split q = record {
   part = λ i d below. Contains-get_or q i d below;
@@ -80,9 +82,11 @@ whole_record q o made mandatory options others labelled options_labelled = recor
 
 -- ---- the whole
 
+-- a task with quads has statements
 pub has_statements : (r : Tree) (t : IssueTask) (w : IsIssueTask r t) → (t.quads ≡ [] → ⊥) → w.case_of.statements ≢ []
 has_statements r t w filled none = filled (w.quads ∙ ap (map text_quad) none)
 
+-- a task without quads has no statements
 pub no_quads : (r : Tree) (t : IssueTask) (w : IsIssueTask r t) → t.quads ≡ [] → w.case_of.statements ≡ []
 no_quads r t w none = empty w.case_of.statements (sym w.quads ∙ none)
   where
@@ -90,12 +94,15 @@ no_quads r t w none = empty w.case_of.statements (sym w.quads ∙ none)
     empty [] e = refl
     empty (s ∷ ss) e = absurd cc
 
+-- a task has as many quads as statements
 pub statements_are : (r : Tree) (t : IssueTask) (w : IsIssueTask r t) → length t.quads ≡ length w.case_of.statements
 statements_are r t w = ap length w.quads ∙ length-map w.case_of.statements text_quad
 
+-- the key that is asked for is that of the method
 pub key_asked : (r : Tree) (t : IssueTask) (w : IsIssueTask r t) (found : Option KeyName) → found ≡ key_for t.keys.entries t.method → key_for w.case_of.parts.table w.case_of.parts.method ≡ found
 key_asked r t w found is = (λ i. key_for (sym w.keys i) (sym w.method i)) ∙ sym is
 
+-- the document that is issued has the given proof
 pub document_is : (r : Tree) (t : IssueTask) (w : IsIssueTask r t) (document : Tree) (text : List ℕ) → document ≡ with_proof t.document t.options text → document ≡ with_proof w.case_of.parts.document w.case_of.parts.options text
 document_is r t w document text is = is ∙ (λ i. with_proof (w.document i) (w.options i) text)
 

@@ -25,23 +25,29 @@ look_nothing : (o : Option Tree) → option_and_then (look []) o ≡ o
 look_nothing None = refl
 look_nothing (Some t) = refl
 
+-- below the root stands the value of the member
 pub look_at : (t : Tree) (key : List ℕ) → look (at key) t ≡ option_and_then (value_of key) (members_of t)
 look_at t key = look_nothing (child_of t (Key key)) ∙ child_of-members t key
 
+-- below an object stands the value of its member
 pub look_in : (t : Tree) (members : List (Member Tree)) (key : List ℕ) → members_of t ≡ Some members → look (at key) t ≡ value_of key members
 look_in t members key is = look_at t key ∙ ap (option_and_then (value_of key)) is
 
+-- the same of an object that is made of members
 pub look_object : (members : List (Member Tree)) (key : List ℕ) → look (at key) (v.Object members) ≡ value_of key members
 look_object members key = look_in (v.Object members) members key (members_of-Object members)
 
 -- ---- texts
 
+-- the text below a key is the text that is told
 pub text_under-from : (key : List ℕ) (t : Tree) (text : List ℕ) → HasText (at key) t text → text_under key t ≡ Some text
 text_under-from key t text h = ap (option_and_then text_of) h ∙ text_of-Text text
 
+-- the text that is told stands below the key
 pub text_under-Some : (key : List ℕ) (t : Tree) (text : List ℕ) → text_under key t ≡ Some text → HasText (at key) t text
 text_under-Some key t text h = let f = and_then-Some text_of (look (at key) t) text h in f.1 ∙ ap Some (text_of-Some f.0 text f.2)
 
+-- what is told to be nothing is nothing
 pub none_from : {A : Type 0} (o : Option A) → is_none o ≡ true → o ≡ None
 none_from None h = refl
 none_from (Some x) h = absurd (cc)
@@ -131,6 +137,7 @@ module _ (o : Tree) where
 abbrev pub SameBeside : List ℕ → Tree → Tree → Type 0
 SameBeside other t u = (key : List ℕ) → bytes_eq other key ≡ false → look (at key) u ≡ look (at key) t
 
+-- a form that is told of a tree beside one member is its shape
 pub shape_from : (t u : Tree) (method : List ℕ) → SameBeside value_name t u → Form t method → look (at value_name) u ≡ None → HasShape u method
 shape_from t u method same f none = record {
   purpose = f.purpose;
@@ -144,6 +151,7 @@ shape_from t u method same f none = record {
   no_context = same at_context refl ∙ f.no_context;
 }
 
+-- the shape of a tree beside one member is its form
 pub form_from : (t u : Tree) (method : List ℕ) → SameBeside value_name t u → HasShape u method → Form t method
 form_from t u method same s = record {
   purpose = s.purpose;
@@ -158,6 +166,7 @@ form_from t u method same s = record {
 
 -- ---- without a member
 
+-- the members of a changed object are the changed members
 pub members_of-changed : (f : List (Member Tree) → List (Member Tree)) (t : Tree) → members_of (with_members f t) ≡ option_map f (members_of t)
 members_of-changed f t = by_level (out-Tree t) refl
   where
@@ -203,13 +212,16 @@ through_removed : (key : List ℕ) (o : Option (List (Member Tree))) → option_
 through_removed key None = refl
 through_removed key (Some ms) = value_of-removed key ms
 
+-- a tree without a member is the same beside it
 pub look_without : (t : Tree) (other : List ℕ) → SameBeside other t (without other t)
 look_without t other = λ key differ.
     look_at (without other t) key ∙ ap (option_and_then (value_of key)) (members_of-changed (without_key other) t) ∙ through_without key other (members_of t) differ ∙ sym (look_at t key)
 
+-- a member that is taken out is not there
 pub look_removed : (t : Tree) (key : List ℕ) → look (at key) (without key t) ≡ None
 look_removed t key = look_at (without key t) key ∙ ap (option_and_then (value_of key)) (members_of-changed (without_key key) t) ∙ through_removed key (members_of t)
 
+-- to take out what is not there changes nothing
 pub without_absent : (key : List ℕ) (t : Tree) → look (at key) t ≡ None → without key t ≡ t
 without_absent key t none = by_level (out-Tree t) refl
   where
@@ -239,6 +251,7 @@ value_of-all p key (m ∷ ms) u h e =
           value_of-all p key ms u (right_of (p m.value) _ h) (sym later ∙ e)
     ]
 
+-- what stands below a lawful tree is lawful
 pub found_lawful : (t u : Tree) (key : List ℕ) → is_lawful t ≡ true → look (at key) t ≡ Some u → is_lawful u ≡ true
 found_lawful t u key lawful is =
     let f = and_then-Some (value_of key) (members_of t) u (sym (look_at t key) ∙ is) in

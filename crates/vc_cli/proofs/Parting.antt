@@ -107,6 +107,7 @@ three_in-Some (c ∷ (d ∷ (k ∷ []))) p h =
     some_same x y e = cc
 three_in-Some (c ∷ (d ∷ (k ∷ (x ∷ xs)))) p h = absurd (cc)
 
+-- an object of five members is the object of a request for issuing
 pub five_of-Some : (r c d k m o : Tree) → five_of r ≡ Some (c, d, k, m, o) → r ≡ issue_object c d k m o
 five_of-Some r c d k m o h =
     let p : Five = (c, d, k, m, o) in
@@ -127,6 +128,7 @@ three_of-object c d k = ap (option_and_then three_in) (members_of-Object (three_
 
 -- ---- what statements say
 
+-- the statements of a flat meaning are statements
 pub all_meant : (r : Tree) (q : List Statement) → IsFlatMeaning r q → ((s : Statement) → Means r s → IsStatement s) → All IsStatement q
 all_meant r q m each = λ k d h. each (get_or q k d) ((m.exact (get_or q k d)).0 (Contains-get_or q k d h))
 
@@ -324,6 +326,7 @@ module _ (r : Tree) where
 
 -- ---- a fault that is handed on
 
+-- an error that is passed on is the one that came
 pub passed : {T E : Type 0} (r : Result T E) (e k : E) → IsErrAnd r (λ y. y ≡ e) → IsErrOf r k → e ≡ k
 passed (Ok x) e k is h = absurd (cc)
 passed (Err y) e k is h = cc

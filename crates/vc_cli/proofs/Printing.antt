@@ -33,6 +33,7 @@ items_whole : (from : ℕ) (ns : List ℕ) → list_any (λ i. holds_version i.v
 items_whole from [] = refl
 items_whole from (n ∷ ns) = rw (holds_version-Whole (pos n)) (items_whole (from + 1) ns)
 
+-- a list of whole numbers is printed as it is
 pub list_printable : (items : List (Item Tree)) (ns : List ℕ) → items ≡ whole_items 0 ns → list_all (λ i. is_in_range i.value) items ≡ true → IsPrintable (v.List items)
 list_printable items ns is small = record {
   lawful = ap (λ (l : List (Item Tree)). is_lawful (v.List l)) is ∙ is_lawful-List (whole_items 0 ns) ∙ both_hold (each_next (λ i j. nat_lt i.at j.at) (whole_items 0 ns)) _ (items_rise 0 ns) (items_lawful 0 ns);
@@ -62,6 +63,7 @@ items_small : (items : List (Item Tree)) (i : Item Tree) → list_all (λ x. is_
 items_small [] i h p = both_hold (is_in_range i.value) _ p.in_range refl
 items_small (x ∷ xs) i h p = both_hold (is_in_range x.value) _ (left_of (is_in_range x.value) _ h) (items_small xs i (right_of (is_in_range x.value) _ h) p)
 
+-- one element more of a list of whole numbers
 pub items_grow : (items after : List (Item Tree)) (i : Item Tree) (ns : List ℕ) (at n : ℕ) → after ≡ items ++ i ∷ [] → i ≡ element at (v.Whole (pos n)) → IsPrintable i.value → n ≡ get_or ns at 0 → at < length ns → items ≡ whole_items 0 (take at ns) → list_all (λ x. is_in_range x.value) items ≡ true → (after ≡ whole_items 0 (take (at + 1) ns)) × (list_all (λ x. is_in_range x.value) after ≡ true)
 items_grow items after i ns at n more one p named within is small =
     let found : n ≡ get_or ns at n = named ∙ sym (get_or_default_zero ns at n within) in (
@@ -69,11 +71,13 @@ items_grow items after i ns at n more one p named within is small =
       ap (λ (l : List (Item Tree)). list_all (λ x. is_in_range x.value) l) more ∙ items_small items i small p,
     )
 
+-- a list of whole numbers with all elements
 pub items_done : (items : List (Item Tree)) (ns : List ℕ) (at : ℕ) → items ≡ whole_items 0 (take at ns) → length ns ≤ at → items ≡ whole_items 0 ns
 items_done items ns at is over = is ∙ ap (whole_items 0) (take_all at ns over)
 
 -- ---- the trees of the lines
 
+-- the line of a tree is the line of an equal one
 pub line_as : {E : Type 0} (r : Result (List ℕ) E) (t u : Tree) → IfOk r (λ line. line ≡ line_of t) → t ≡ u → IfOk r (λ line. line ≡ line_of u)
 line_as r t u h same = subst (λ (x : Tree). IfOk r (λ line. line ≡ line_of x)) same h
 
@@ -83,17 +87,21 @@ two_fields a b x y p q = ap (λ (m : Member Tree). m ∷ b ∷ []) p ∙ ap (λ 
 one_more : (a x : Member Tree) (ys xs : List (Member Tree)) → a ≡ x → ys ≡ xs → a ∷ ys ≡ x ∷ xs
 one_more a x ys xs p q = ap (λ (m : Member Tree). m ∷ ys) p ∙ ap (λ (l : List (Member Tree)). x ∷ l) q
 
+-- the refusal of a key is made of its members
 pub no_key_is : (t : Tree) (fields : List (Member Tree)) (a b : Member Tree) (key : KeyName) → t ≡ refusal_tree fields → fields ≡ a ∷ b ∷ [] → a ≡ key_field (codes "key") key → b ≡ name_field (codes "NoKey") → t ≡ no_key_tree key
 no_key_is t fields a b key is both p q = is ∙ ap refusal_tree (both ∙ two_fields a b _ _ p q)
 
+-- a no is made of its members
 pub rejected_is : (members fields : List (Member Tree)) (a b : Member Tree) (c : Cause) → members ≡ a ∷ b ∷ [] → a ≡ new_member (codes "cause") (v.Object fields) → b ≡ new_member (codes "verified") (v.Bool false) → fields ≡ cause_fields c → v.Object members ≡ rejected_tree c
 rejected_is members fields a b c both p q is =
     ap v.Object (both ∙ two_fields a b _ _ (p ∙ ap (λ (l : List (Member Tree)). new_member (codes "cause") (v.Object l)) is) q)
 
+-- the answer to issuing is made of its members
 pub issued_is : (members : List (Member Tree)) (a b c d : Member Tree) (document : Tree) (mandatory statements : ℕ) → members ≡ a ∷ b ∷ c ∷ d ∷ [] → a ≡ new_member (codes "document") document → b ≡ number_field (codes "mandatory") mandatory → c ≡ number_field (codes "statements") statements → d ≡ new_member (codes "tie") (v.Bool false) → v.Object members ≡ issued_tree document mandatory statements
 issued_is members a b c d document mandatory statements all p q r s =
     ap v.Object (all ∙ one_more a _ _ _ p (one_more b _ _ _ q (two_fields c d _ _ r s)))
 
+-- a yes is made of its members
 pub verified_is : (members : List (Member Tree)) (a b c d e f g : Member Tree) (issuer key : KeyName) (labels : List (Member Tree)) (items : List (Item Tree)) (seen indexes : List ℕ) (statements : ℕ) → members ≡ a ∷ b ∷ c ∷ d ∷ e ∷ f ∷ g ∷ [] → a ≡ key_field (codes "key") issuer → labels ≡ [] → b ≡ new_member (codes "labels") (v.Object labels) → seen ≡ indexes → items ≡ whole_items 0 seen → c ≡ new_member (codes "mandatory") (v.List items) → d ≡ key_field (codes "statementKey") key → e ≡ number_field (codes "statements") statements → f ≡ new_member (codes "tie") (v.Bool false) → g ≡ new_member (codes "verified") (v.Bool true) → v.Object members ≡ verified_tree issuer indexes key statements
 verified_is members a b c d e f g issuer key labels items seen indexes statements all p none q same is r s t u w =
     let empty : b ≡ new_member (codes "labels") (v.Object []) = q ∙ ap (λ (l : List (Member Tree)). new_member (codes "labels") (v.Object l)) none in

@@ -26,6 +26,7 @@ after Less p q = absurd (cc)
 after Equal p q = absurd (cc)
 after Greater p q = refl
 
+-- of two names that differ the one that does not come first comes later
 pub is_after : (a b : List ℕ) → is_before a b ≡ false → bytes_eq a b ≡ false → is_before b a ≡ true
 is_after a b p q = ap is_lt (nat_list_cmp_total.antisymm b a) ∙ after (slice_cmp nat_cmp a b) p (is_eq-slice_cmp a b ∙ q)
 
@@ -100,9 +101,11 @@ module _ (x : Member Tree) where
 
 -- ---- objects with a member more
 
+-- a member is put into an object among its members
 pub with_member-Object : (key : List ℕ) (value : Tree) (ms : List (Member Tree)) → with_member key value (v.Object ms) ≡ v.Object (put_member (new_member key value) ms)
 with_member-Object key value ms = ap (with_members_in (put_member (new_member key value)) (v.Object ms)) (v.outs-Object ms)
 
+-- a lawful value put in leaves a lawful object
 pub with_member-lawful : (key : List ℕ) (value : Tree) (ms : List (Member Tree)) → is_lawful value ≡ true → is_lawful (v.Object ms) ≡ true → is_lawful (with_member key value (v.Object ms)) ≡ true
 with_member-lawful key value ms one all =
     let parts = sym (is_lawful-Object ms) ∙ all in
@@ -133,6 +136,7 @@ pub none_of : {X : Type 0} (p : X → Bool) (xs : List X) → list_all (λ x. no
 none_of p [] h = refl
 none_of p (x ∷ xs) h = rw (so_not (p x) (left_of (not (p x)) _ h)) (none_of p xs (right_of (not (p x)) _ h))
 
+-- where none passes each fails
 pub all_of : {X : Type 0} (p : X → Bool) (xs : List X) → list_any p xs ≡ false → list_all (λ x. not (p x)) xs ≡ true
 all_of p [] h = refl
 all_of p (x ∷ xs) h = both_hold (not (p x)) _ (ap not (no_left (p x) _ h)) (all_of p xs (no_right (p x) _ h))
@@ -143,6 +147,7 @@ with_member-whole key value ms one all =
     ∙ none_of (λ m. holds_version m.value) (put_member (new_member key value) ms)
     (put_all (new_member key value) (λ m. not (holds_version m.value)) ms (ap not one) (all_of (λ m. holds_version m.value) ms (sym (holds_version-Object ms) ∙ all)))
 
+-- a value that is printed as it is, put in, leaves such an object
 pub with_member-printable : (key : List ℕ) (value t : Tree) → IsPrintable value → IsObject t → IsPrintable t → IsPrintable (with_member key value t)
 with_member-printable key value t one o all =
     let seen : IsPrintable (v.Object o.members) = subst IsPrintable o.is all in
@@ -152,6 +157,7 @@ with_member-printable key value t one o all =
       whole = with_member-whole key value o.members one.whole seen.whole;
     } in p)
 
+-- a text is printed as it is
 pub text_printable : (text : List ℕ) → IsPrintable (v.Text text)
 text_printable text = record { lawful = is_lawful-Text text; in_range = is_in_range-Text text; whole = holds_version-Text text }
 

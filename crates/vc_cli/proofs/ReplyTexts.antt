@@ -39,34 +39,42 @@ limit_line n name = line_is (limit_refusal n name) _ (limit_data n name)
 
 -- ---- the texts
 
+-- the line of the refusal NotJson
 pub not_json_line : codes "{\"refused\":{\"name\":\"NotJson\"}}\n" ≡ line_of (plain_refusal (codes "NotJson"))
 unfolding escape_byte
 not_json_line = sym (plain_line (codes "NotJson"))
 
+-- the line of the refusal NotBuilt
 pub not_built_line : codes "{\"refused\":{\"name\":\"NotBuilt\"}}\n" ≡ line_of (plain_refusal (codes "NotBuilt"))
 unfolding escape_byte
 not_built_line = sym (plain_line (codes "NotBuilt"))
 
+-- the line of the refusal NoStatements
 pub no_statements_line : codes "{\"refused\":{\"name\":\"NoStatements\"}}\n" ≡ line_of (plain_refusal (codes "NoStatements"))
 unfolding escape_byte
 no_statements_line = sym (plain_line (codes "NoStatements"))
 
+-- the line of the refusal DeviceFault
 pub device_fault_line : codes "{\"refused\":{\"name\":\"DeviceFault\"}}\n" ≡ line_of (plain_refusal (codes "DeviceFault"))
 unfolding escape_byte
 device_fault_line = sym (plain_line (codes "DeviceFault"))
 
+-- the line of the refusal ReadFault
 pub read_fault_line : codes "{\"refused\":{\"name\":\"ReadFault\"}}\n" ≡ line_of (plain_refusal (codes "ReadFault"))
 unfolding escape_byte
 read_fault_line = sym (plain_line (codes "ReadFault"))
 
+-- the line of the refusal Memory
 pub memory_line : codes "{\"refused\":{\"name\":\"Memory\"}}\n" ≡ line_of (plain_refusal (codes "Memory"))
 unfolding escape_byte
 memory_line = sym (plain_line (codes "Memory"))
 
+-- the line of the refusal TooLong, with the limit
 pub too_long_line : codes "{\"refused\":{\"limit\":8388608,\"name\":\"TooLong\"}}\n" ≡ line_of (limit_refusal input_limit (codes "TooLong"))
 unfolding escape_byte digits
 too_long_line = sym (limit_line input_limit (codes "TooLong"))
 
+-- the line of the refusal TreeTooDeep, with the limit
 pub too_deep_line : codes "{\"refused\":{\"limit\":100,\"name\":\"TreeTooDeep\"}}\n" ≡ line_of (limit_refusal depth_limit (codes "TreeTooDeep"))
 unfolding escape_byte digits
 too_deep_line = sym (limit_line depth_limit (codes "TreeTooDeep"))

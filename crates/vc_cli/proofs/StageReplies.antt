@@ -195,6 +195,7 @@ verified_sound before after r a said answer is h line = yes_sound before after r
 
 -- ---- what is no yes says nothing
 
+-- a no claims nothing
 pub rejected_sound : (r : Tree) (accepts : Acceptance) (why : Cause) (answer : Reply) → IsRejectedReply why answer → IsSoundReply r accepts answer
 rejected_sound r accepts why (reply.Yes line) is = absurd is
 rejected_sound r accepts why other is = tt
@@ -207,6 +208,7 @@ value_sound : (r : Tree) (accepts : Acceptance) (why : ValueFault) (answer : Rep
 value_sound r accepts why (reply.Yes line) is = absurd is
 value_sound r accepts why other is = tt
 
+-- a refusal to verify claims nothing
 pub unverified_sound : (r : Tree) (accepts : Acceptance) (fault : VerifyFault) (answer : Reply) → IsUnverifiedReply fault answer → IsSoundReply r accepts answer
 unverified_sound r accepts unverified.NotBuilt answer is = subst (IsSoundReply r accepts) (sym is) tt
 unverified_sound r accepts (unverified.Value why) answer is = value_sound r accepts why answer is
@@ -214,6 +216,7 @@ unverified_sound r accepts (unverified.UnknownMethod method) answer is = unknown
 unverified_sound r accepts unverified.Device answer is = subst (IsSoundReply r accepts) (sym is) tt
 unverified_sound r accepts unverified.Memory answer is = subst (IsSoundReply r accepts) (sym is) tt
 
+-- a reply to what was not read claims nothing
 pub unread_sound : (before after : SourceMeaning) (accepts : Acceptance) (r : Reply) → IsUnread before after r → HasSoundReply before accepts r
 unread_sound before after accepts (reply.Yes line) h = absurd h.2
 unread_sound before after accepts other h = tt

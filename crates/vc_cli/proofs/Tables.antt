@@ -18,12 +18,15 @@ use Rattle.vc_cli.specs.Internal.Parts.{AreDigits}
 
 -- ---- digits
 
+-- the digits of bytes are decoded to them
 pub digits_read : (digits bytes : List ℕ) → AreDigits digits bytes → decode_sized digits 35 ≡ Ok bytes
 digits_read digits bytes d = ap (λ (s : List ℕ). decode_sized s 35) d.are ∙ decode_sized-encode_lower bytes 35 d.long d.each_a_byte
 
+-- what is not decoded is the digits of no bytes
 pub no_digits : (digits : List ℕ) (r : Result (List ℕ) FromHexError) (e : FromHexError) → r ≡ decode_sized digits 35 → r ≡ Err e → (bytes : List ℕ) → AreDigits digits bytes → ⊥
 no_digits digits r e is h = λ bytes d. let read = digits_read digits bytes d in absurd (cc)
 
+-- digits that are not in lower case are the digits of no bytes
 pub other_digits : (digits bytes : List ℕ) (r : Result (List ℕ) FromHexError) (b : Bool) → r ≡ decode_sized digits 35 → r ≡ Ok bytes → IsTrue b ↔ (digits ≡ encode_lower bytes) → b ≡ false → (others : List ℕ) → AreDigits digits others → ⊥
 other_digits digits bytes r b is h written unlike = λ others d.
     let read = digits_read digits others d in
@@ -31,6 +34,7 @@ other_digits digits bytes r b is h written unlike = λ others d.
     let holds : IsTrue b = written.1 (d.are ∙ ap encode_lower same) in
     absurd (cc)
 
+-- what is decoded and written again alike is the digits of the bytes
 pub are_digits : (digits bytes : List ℕ) → decode_sized digits 35 ≡ Ok bytes → digits ≡ encode_lower bytes → AreDigits digits bytes
 are_digits digits bytes h e =
     let long = decode_sized-ok digits 35 bytes h in
@@ -39,15 +43,18 @@ are_digits digits bytes h e =
 
 -- ---- an entry
 
+-- a member with the digits of a key is that entry of the table
 pub entry_from : (m : Member Tree) (e : KeyEntry) (digits : List ℕ) → text_of m.value ≡ Some digits → AreDigits digits e.key.bytes → m.key ≡ e.method → IsKeyEntry m e
 entry_from m e digits is d named = record { method = named; digits = text_of-Some m.value digits is ∙ ap v.Text d.are; long = d.long; bytes = d.each_a_byte }
 
 entry_text : (m : Member Tree) (e : KeyEntry) → IsKeyEntry m e → text_of m.value ≡ Some (encode_lower e.key.bytes)
 entry_text m e i = ap text_of i.digits ∙ text_of-Text (encode_lower e.key.bytes)
 
+-- a member without a text is no entry
 pub no_text : (m : Member Tree) → text_of m.value ≡ None → (e : KeyEntry) → IsKeyEntry m e → ⊥
 no_text m none = λ e i. let there = entry_text m e i in absurd (cc)
 
+-- a member without the digits of a key is no entry
 pub no_key : (m : Member Tree) (digits : List ℕ) → text_of m.value ≡ Some digits → ((bytes : List ℕ) → AreDigits digits bytes → ⊥) → (e : KeyEntry) → IsKeyEntry m e → ⊥
 no_key m digits is never = λ e i.
     let there = entry_text m e i in
@@ -56,6 +63,7 @@ no_key m digits is never = λ e i.
 
 -- ---- a table
 
+-- a pairing with one pair more
 pub AllZip-more : {A B : Type 0} (R : A → B → Type 0) (xs : List A) (ys : List B) (x : A) (y : B) → AllZip R xs ys → R x y → AllZip R (xs ++ x ∷ []) (ys ++ y ∷ [])
 AllZip-more R [] [] x y h r = (r, tt)
 AllZip-more R [] (b ∷ ys) x y h r = absurd h
@@ -74,12 +82,15 @@ table_more ms table i m e h l is entry =
     let longer : take (i + 1) ms ≡ take i ms ++ m ∷ [] = rw add-one (take-suc ms i m l ∙ ap (λ (n : Member Tree). take i ms ++ n ∷ []) (sym is)) in
     subst (λ (l : List (Member Tree)). AllZip IsKeyEntry l (table ++ e ∷ [])) (sym longer) (AllZip-more IsKeyEntry (take i ms) table m e h entry)
 
+-- members that are entries are the table
 pub table_from : (keys : Tree) (ms : List (Member Tree)) (table : List KeyEntry) → members_of keys ≡ Some ms → AllZip IsKeyEntry ms table → IsKeyTable keys table
 table_from keys ms table is each = record { members = ms; is = members_of-Some keys ms is; each = each }
 
+-- what is no object is no table
 pub no_object : (keys : Tree) → members_of keys ≡ None → (table : List KeyEntry) → IsKeyTable keys table → ⊥
 no_object keys none = λ table t. let there = ap members_of t.is ∙ members_of-Object t.members in absurd (cc)
 
+-- members of which one is no entry are no table
 pub no_entry : (keys : Tree) (ms : List (Member Tree)) (i : ℕ) (m : Member Tree) → members_of keys ≡ Some ms → i < length ms → m ≡ get_or ms i m → ((e : KeyEntry) → IsKeyEntry m e → ⊥) → (table : List KeyEntry) → IsKeyTable keys table → ⊥
 no_entry keys ms i m is l at never = λ table t.
     let there = ap members_of t.is ∙ members_of-Object t.members in
@@ -89,6 +100,7 @@ no_entry keys ms i m is l at never = λ table t.
     let named : get_or t.members i m ≡ m = ap (λ (l : List (Member Tree)). get_or l i m) same ∙ sym at in
     never found.0 (subst (λ (n : Member Tree). IsKeyEntry n found.0) named found.1)
 
+-- the same where the entry was refused
 pub no_entry_of : (keys : Tree) (ms : List (Member Tree)) (i : ℕ) (m : Member Tree) (fault : FlatFault) → members_of keys ≡ Some ms → i < length ms → m ≡ get_or ms i m → (fault ≡ NotBuilt → (e : KeyEntry) → IsKeyEntry m e → ⊥) → fault ≡ NotBuilt → (table : List KeyEntry) → IsKeyTable keys table → ⊥
 no_entry_of keys ms i m fault is l at never e = no_entry keys ms i m is l at (never e)
 

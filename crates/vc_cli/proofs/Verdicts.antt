@@ -41,6 +41,7 @@ use Rattle.vc_cli.specs.Internal.Stages.{IsCauseOf, ReadsPlain, Verifies}
 
 -- ---- the first index that is no line's
 
+-- the first index that is found is the first over the count
 pub is_first_over : (lines : List (List ℕ)) (indexes : List ℕ) (count k : ℕ) → count ≡ length lines → position (λ n. nat_le count n) indexes ≡ Some k → IsFirstOver lines indexes k
 is_first_over lines indexes count k counted found =
     let p = position-Some (λ n. nat_le count n) indexes k 0 found in
@@ -65,17 +66,20 @@ no_first p xs none i below =
     let long : length xs ≤ prefix_len (λ x. not (p x)) xs = grind (arith, none) in
     untrue (p (get_or xs i 0)) (prefix_len_passes (λ x. not (p x)) xs i 0 (omega (arith, long, below)))
 
+-- where none is found each index is below the count
 pub are_below : (lines : List (List ℕ)) (indexes : List ℕ) (count : ℕ) → count ≡ length lines → position (λ n. nat_le count n) indexes ≡ None → AreBelow lines indexes
 are_below lines indexes count counted none =
     All-from_get_or (λ i. i < length lines) indexes 0
     (λ i below. let test : nat_le count (get_or indexes i 0) ≡ false = no_first (λ n. nat_le count n) indexes none i below in grind (arith, nat_tests))
 
+-- fewer indexes than lines want signatures that are not there
 pub count_cause : (lines : List (List ℕ)) (indexes : List ℕ) (count : ℕ) → rise indexes ≡ true → (lines ≡ [] → ⊥) → count ≡ length lines → position (λ n. nat_le count n) indexes ≡ None → length indexes < length lines → IsCauseOf lines indexes (Some (cause.Count 0 (length lines - length indexes)))
 count_cause lines indexes count rises filled counted none fewer =
     let below = are_below lines indexes count counted none in
     let others : length (other_lines indexes lines) ≡ length lines - length indexes = other_lines-length indexes lines rises below in
     (filled, below, refl, sym others, (λ e. omega (arith, e, fewer)))
 
+-- indexes that are all and below give no cause
 pub no_cause : (lines : List (List ℕ)) (indexes : List ℕ) (count : ℕ) → rise indexes ≡ true → (lines ≡ [] → ⊥) → count ≡ length lines → position (λ n. nat_le count n) indexes ≡ None → length lines ≤ length indexes → IsCauseOf lines indexes None
 no_cause lines indexes count rises filled counted none enough =
     let below = are_below lines indexes count counted none in
@@ -84,6 +88,7 @@ no_cause lines indexes count rises filled counted none enough =
 
 -- ---- lines and statements
 
+-- without lines there are no statements
 pub no_statements : (q : List Statement) → canonical_lines no_label q ≡ [] → q ≡ []
 no_statements [] none = refl
 no_statements (s ∷ ss) none =
@@ -109,7 +114,7 @@ module _ (r : Tree) (t : VerifyTask) (w : IsVerifyTask r t) (value : DerivedValu
   sound_of accepts issuer good = λ history covered.
       let v = verify_data case_of issuer in
       let n : NamesOne history v = covered_names_one history accepts v good covered
-          (flat_labelled _ w.statements w.means w.are_statements) (flat_labelled _ w.option_statements w.options_mean w.are_options) in
+      (flat_labelled _ w.statements w.means w.are_statements) (flat_labelled _ w.option_statements w.options_mean w.are_options) in
       record {
         names = n;
         reveals = λ issued options mandatory made. (
@@ -181,6 +186,7 @@ value_refused before after r t w (unverified.Value why) h = (w.parts, w.are, sub
 value_refused before after r t w unverified.Memory h = tt
 value_refused before after r t w other h = absurd h
 
+-- a value that is refused is refused for its cause
 pub value_failed : (before after : DeviceMeaning) (r : Tree) (t : VerifyTask) (w : IsVerifyTask r t) (result : Result Verdict VerifyFault) (why : VerifyFault) → IsErrAnd result (λ y. y ≡ why) → ReadsPlain t.value (Err why) → Verifies before after r result
 value_failed before after r t w (Ok v) why is h = absurd is
 value_failed before after r t w (Err y) why is h = subst (λ (x : VerifyFault). Verifies before after r (Err x)) (sym is) (value_refused before after r t w why h)

@@ -87,7 +87,7 @@ abbrev pub VerifyAnswers : DeviceMeaning → DeviceMeaning → Tree → Reply �
 VerifyAnswers before after r reply.NotBuilt =
     (IsFlatVerify r → ⊥)
     ⊎ ((p : VerifyParts) × (value : DerivedValue) × IsVerify r p
-      × SpellsDerived value p.value × (IsPlainValue value → ⊥))
+    × SpellsDerived value p.value × (IsPlainValue value → ⊥))
 VerifyAnswers before after r (reply.ProofValue line) =
     (p : VerifyParts) × (fault : ValueFault) × IsVerify r p
     × RefusesDerived p.value fault
@@ -135,9 +135,9 @@ abbrev pub Answers : List (List ℕ) → SourceMeaning → SourceMeaning
 Answers words source source_after device device_after r =
     (IsStatements words × AnswersRequest StatementsAnswers source source_after r)
     ⊎ (IsIssueCommand words
-      × AnswersRequest (IssueAnswers device device_after) source source_after r)
+    × AnswersRequest (IssueAnswers device device_after) source source_after r)
     ⊎ (IsVerifyCommand words
-      × AnswersRequest (VerifyAnswers device device_after) source source_after r)
+    × AnswersRequest (VerifyAnswers device device_after) source source_after r)
     ⊎ ((IsCommand words → ⊥) × (r ≡ reply.Usage))
 
 -- A document was issued for what was left, by a device that meant this before and after.
@@ -187,4 +187,4 @@ abbrev pub Delivers : Reply → Status → SinkMeaning → SinkMeaning → Type 
 Delivers r result before after =
     ((result ≡ status_of r) × Wrote before after (bytes_of r))
     ⊎ ((result ≡ status.WriteFault) × HasRisen before.faults after.faults
-      × WrotePrefix before after (bytes_of r))
+    × WrotePrefix before after (bytes_of r))

@@ -95,7 +95,7 @@ HasCause accepts c (cause.Count signatures statements) =
 HasCause accepts c cause.BaseSignature =
     IsRight c
     × ((issuer : KeyName) × (key_for c.parts.table c.parts.method ≡ Some issuer)
-      × (accepts issuer (verify_bytes (verify_data c issuer)) (signature c.value.signature) ≡ false))
+    × (accepts issuer (verify_bytes (verify_data c issuer)) (signature c.value.signature) ≡ false))
 HasCause accepts c (cause.Labels n) = ⊥
 HasCause accepts c (cause.Expired expires moment) = ⊥
 HasCause accepts c (cause.StatementSignature i) = ⊥
@@ -113,7 +113,7 @@ pub record NamesOneIssue (history : List BaseRecord) (v : VerifyData) : Type 0 w
   pub reveals : (issued options : LabelledDataset) (mandatory : List Statement)
       → IsRecord issued options mandatory names.one
       → Same v.options.statements options.statements
-        × Reveals v.document v.proof.indexes issued.statements mandatory
+      × Reveals v.document v.proof.indexes issued.statements mandatory
 
 -- What a yes says of every history of records that covers it.
 abbrev pub IsSound : Acceptance → VerifyCase → KeyName → Type 0

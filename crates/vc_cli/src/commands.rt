@@ -53,11 +53,7 @@ fn statements_of(alloc: Global, request: &Tree) -> Reply
 
 /// The reply to the command `issue`.
 #[tactic(auto, using(crate::proofs::StageReplies::issue_steps))]
-pub(crate) fn issue<S: Source, D: KeyDevice>(
-    alloc: Global,
-    source: &mut S,
-    device: &mut D,
-) -> Reply
+pub(crate) fn issue<S: Source, D: KeyDevice>(alloc: Global, source: &mut S, device: &mut D) -> Reply
     ensures answer { AnswersRequest (IssueAnswers (D.means device.old) (D.means device.new))
         (S.means source.old) (S.means source.new) result }
     ensures signs { Signs (S.means source.old) (D.means device.old) (D.means device.new) result }

@@ -73,7 +73,7 @@ fn is_named(members: &[Member], at: usize, key: &str) -> bool
 fn slot_in(alloc: Global, members: Vec<Member>, key: &str) -> Result<Slot, Memory>
     ensures puts { IfOk result (λ slot. (value : AnyTree)
         → with_value_at slot.members.items slot.at value
-            ≡ put_member (new_member key.now value) members.items) }
+        ≡ put_member (new_member key.now value) members.items) }
     ensures within { IfOk result (λ slot. slot.at < length slot.members.items) }
 {
     let at = place_of(members.as_slice(), key);

@@ -31,10 +31,9 @@ use run::deliver;
 pub use run::{run, run_alone, uses_device};
 pub use status::Status;
 use std::alloc::Global;
-use std::env;
-use std::io;
 use std::process::ExitCode;
 use std::rt::Env;
+use std::{env, io};
 use vc_io::{ReaderSource, Sink, Source, WriterSink};
 
 fn main(rt: HostRuntime) -> ExitCode {

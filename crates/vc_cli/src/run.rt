@@ -31,7 +31,7 @@ pub fn run<S: Source, K: Sink, D: KeyDevice>(
     // One reply answers the words and the input, it was delivered, and nothing is signed but what it says.
     ensures answer { (reply : AnyReply)
         × Answers words.now (S.means source.old) (S.means source.new)
-            (D.means device.old) (D.means device.new) reply
+        (D.means device.old) (D.means device.new) reply
         × Delivers reply result (K.means sink.old) (K.means sink.new)
         × Signs (S.means source.old) (D.means device.old) (D.means device.new) reply }
     // Under other words nothing is read.

@@ -110,7 +110,8 @@ const ISSUE: &str = r#"{
 }"#;
 
 /// The document with its base proof.
-const ISSUED: &str = r#"{"document":{"@context":"https://ex.org/f","@id":"https://ex.org/a","name":"Ann","proof":{"@id":"https://ex.org/o","cryptosuite":"ecdsa-sd-2023","proofPurpose":"assertionMethod","proofValue":"u2V0AhVhAAAAAAAAAAAAAAAAAAAAAAAAAAAAAAAAAAAAAAAAAAAAAAAAAAAAAAAAAAAAAAAAAAAAAAAAAAAAAAAAAAAAAAVgjAAEAAAAAAAAAAAAAAAAAAAAAAAAAAAAAAAAAAAAAAAAAAAFYIAAAAAAAAAAAAAAAAAAAAAAAAAAAAAAAAAAAAAAAAAABgIFg","type":"DataIntegrityProof","verificationMethod":"urn:k"}},"mandatory":1,"statements":1,"tie":false}"#;
+const ISSUED: &str =
+    r#"{"document":{"@context":"https://ex.org/f","@id":"https://ex.org/a","name":"Ann","proof":{"@id":"https://ex.org/o","cryptosuite":"ecdsa-sd-2023","proofPurpose":"assertionMethod","proofValue":"u2V0AhVhAAAAAAAAAAAAAAAAAAAAAAAAAAAAAAAAAAAAAAAAAAAAAAAAAAAAAAAAAAAAAAAAAAAAAAAAAAAAAAAAAAAAAAVgjAAEAAAAAAAAAAAAAAAAAAAAAAAAAAAAAAAAAAAAAAAAAAAFYIAAAAAAAAAAAAAAAAAAAAAAAAAAAAAAAAAAAAAAAAAABgIFg","type":"DataIntegrityProof","verificationMethod":"urn:k"}},"mandatory":1,"statements":1,"tie":false}"#;
 
 /// Edits of the request, for which nothing is issued.
 const ISSUE_ROWS: &[Row] = &[
@@ -264,7 +265,8 @@ const VERIFY: &str = r#"{
 }"#;
 
 /// That it verifies.
-const VERIFIED: &str = r#"{"key":"802403abcdef0123456789abcdef0123456789abcdef0123456789abcdef0123456789","labels":{},"mandatory":[0],"statementKey":"0001000000000000000000000000000000000000000000000000000000000000000001","statements":1,"tie":false,"verified":true}"#;
+const VERIFIED: &str =
+    r#"{"key":"802403abcdef0123456789abcdef0123456789abcdef0123456789abcdef0123456789","labels":{},"mandatory":[0],"statementKey":"0001000000000000000000000000000000000000000000000000000000000000000001","statements":1,"tie":false,"verified":true}"#;
 
 /// Edits of the request, for which the document does not verify.
 const VERIFY_ROWS: &[Row] = &[
@@ -523,7 +525,12 @@ fn words_and_inputs(rt: HostRuntime) -> Result<(), Fail> {
         (&["issue"], b"\"\xff\"", Status::Input, not_json),
         (&["verify"], b"{} {}", Status::Input, not_json),
         (&["statements"], b"1e0", Status::Input, not_whole),
-        (&["issue"], b"18446744073709551615", Status::Input, not_built),
+        (
+            &["issue"],
+            b"18446744073709551615",
+            Status::Input,
+            not_built,
+        ),
         (&["verify"], b"{}", Status::Input, not_built),
     ];
     for (words, input, status, reply) in cases {
@@ -561,11 +568,31 @@ fn limits(rt: HostRuntime) -> Result<(), Fail> {
     let alloc = rt.alloc();
     let mut device = LedgerDevice::new(alloc, &[])?;
     let cases = [
-        (nested(alloc, 100)?, Status::Input, r#"{"refused":{"name":"NotBuilt"}}"#),
-        (nested(alloc, 101)?, Status::Input, r#"{"refused":{"limit":100,"name":"TreeTooDeep"}}"#),
-        (nested(alloc, 128)?, Status::Input, r#"{"refused":{"name":"NotJson"}}"#),
-        (padded(alloc, 8_388_608)?, Status::Done, r#"<https://ex.org/a> <https://ex.org/z> "Ann" ."#),
-        (padded(alloc, 8_388_609)?, Status::Input, r#"{"refused":{"limit":8388608,"name":"TooLong"}}"#),
+        (
+            nested(alloc, 100)?,
+            Status::Input,
+            r#"{"refused":{"name":"NotBuilt"}}"#,
+        ),
+        (
+            nested(alloc, 101)?,
+            Status::Input,
+            r#"{"refused":{"limit":100,"name":"TreeTooDeep"}}"#,
+        ),
+        (
+            nested(alloc, 128)?,
+            Status::Input,
+            r#"{"refused":{"name":"NotJson"}}"#,
+        ),
+        (
+            padded(alloc, 8_388_608)?,
+            Status::Done,
+            r#"<https://ex.org/a> <https://ex.org/z> "Ann" ."#,
+        ),
+        (
+            padded(alloc, 8_388_609)?,
+            Status::Input,
+            r#"{"refused":{"limit":8388608,"name":"TooLong"}}"#,
+        ),
     ];
     for (input, status, reply) in cases {
         let ended = outcome(alloc, &["statements"], input, &mut device)?;
@@ -601,7 +628,11 @@ fn failing_calls(rt: HostRuntime) -> Result<(), Fail> {
         let input = Vec::from_slice(alloc, request.as_bytes())?;
         let ended = outcome(alloc, &[word], input, &mut device)?;
         assert_eq!(rt; ended.0, Status::DeviceFault, "at {word}");
-        assert_eq!(rt; ended.1, line(alloc, r#"{"refused":{"name":"DeviceFault"}}"#)?, "at {word}");
+        assert_eq!(rt;
+            ended.1,
+            line(alloc, r#"{"refused":{"name":"DeviceFault"}}"#)?,
+            "at {word}"
+        );
     }
     Ok(())
 }
@@ -610,12 +641,20 @@ fn failing_calls(rt: HostRuntime) -> Result<(), Fail> {
 fn replies_without_memory(rt: HostRuntime) -> Result<(), Fail> {
     let cases: [(Reply, u8, &str); 3] = [
         (Reply::Memory, 8, r#"{"refused":{"name":"Memory"}}"#),
-        (Reply::DeviceFault, 7, r#"{"refused":{"name":"DeviceFault"}}"#),
+        (
+            Reply::DeviceFault,
+            7,
+            r#"{"refused":{"name":"DeviceFault"}}"#,
+        ),
         (Reply::ReadFault, 5, r#"{"refused":{"name":"ReadFault"}}"#),
     ];
     for (reply, status, text) in cases {
         assert_eq!(rt; reply.status() as u8, status, "at {text}");
-        assert_eq!(rt; reply.as_bytes(), line(rt.alloc(), text)?.as_slice(), "at {text}");
+        assert_eq!(rt;
+            reply.as_bytes(),
+            line(rt.alloc(), text)?.as_slice(),
+            "at {text}"
+        );
     }
     Ok(())
 }

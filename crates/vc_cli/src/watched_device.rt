@@ -107,12 +107,12 @@ impl KeyDevice for FailingDevice {
     ghost use Rattle.std.proofs.lemmas.Bool.{false≢true};
 
     ghost means = { λ d. record {
-        accepts = λ key bytes signature. false;
-        owns = λ key. false;
-        log = None;
-        next_secret = None;
-        faults = d.count;
-        exact = false;
+      accepts = λ key bytes signature. false;
+      owns = λ key. false;
+      log = None;
+      next_secret = None;
+      faults = d.count;
+      exact = false;
     } };
 
     ghost exact_means = { λ d exact. absurd (false≢true exact) };

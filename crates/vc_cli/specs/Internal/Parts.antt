@@ -23,9 +23,9 @@ five_in (c ∷ d ∷ k ∷ []) = None
 five_in (c ∷ d ∷ k ∷ m ∷ []) = None
 five_in (c ∷ d ∷ k ∷ m ∷ o ∷ []) =
     only_if (
-      bytes_eq c.key (codes "contexts") && bytes_eq d.key (codes "document")
-      && bytes_eq k.key (codes "keys") && bytes_eq m.key (codes "mandatory")
-      && bytes_eq o.key (codes "options"))
+    bytes_eq c.key (codes "contexts") && bytes_eq d.key (codes "document")
+    && bytes_eq k.key (codes "keys") && bytes_eq m.key (codes "mandatory")
+    && bytes_eq o.key (codes "options"))
     (Some (c.value, d.value, k.value, m.value, o.value))
 five_in (c ∷ d ∷ k ∷ m ∷ o ∷ x ∷ xs) = None
 
@@ -39,8 +39,8 @@ three_in (c ∷ []) = None
 three_in (c ∷ d ∷ []) = None
 three_in (c ∷ d ∷ k ∷ []) =
     only_if (
-      bytes_eq c.key (codes "contexts") && bytes_eq d.key (codes "document")
-      && bytes_eq k.key (codes "keys"))
+    bytes_eq c.key (codes "contexts") && bytes_eq d.key (codes "document")
+    && bytes_eq k.key (codes "keys"))
     (Some (c.value, d.value, k.value))
 three_in (c ∷ d ∷ k ∷ x ∷ xs) = None
 
@@ -74,17 +74,17 @@ abbrev pub issue_names : Tree → Tree → Option (List ℕ × List ℕ)
 issue_names d o =
     only_if (lacks proof_name d && lacks value_name o)
     (option_and_then (λ name. option_map (λ method. (name, method)) (method_in o))
-      (text_under at_context d))
+    (text_under at_context d))
 
 -- the proof of a document, the name of its context, and the proof's method and value
 abbrev pub proof_parts : Tree → Option (Tree × List ℕ × List ℕ × List ℕ)
 proof_parts d =
     option_and_then (λ proof.
-      option_and_then (λ name.
-        option_and_then (λ method.
-          option_map (λ value. (proof, name, method, value)) (text_under value_name proof))
-          (method_in proof))
-        (text_under at_context d))
+    option_and_then (λ name.
+    option_and_then (λ method.
+    option_map (λ value. (proof, name, method, value)) (text_under value_name proof))
+    (method_in proof))
+    (text_under at_context d))
     (look (at proof_name) d)
 
 -- these are 70 lower-case hexadecimal digits, of these bytes
