@@ -117,22 +117,28 @@ pairs_count (e ∷ es) = ap (λ (z : ℕ). suc (count_of e.1) + z) (pairs_count 
 
 -- ---- each kind of item
 
-nesting-Whole : (n : ℕ) → item_nesting (v.Whole n) ≡ 0
+-- a whole number does not nest
+pub nesting-Whole : (n : ℕ) → item_nesting (v.Whole n) ≡ 0
 nesting-Whole n = ap item_nesting (sym (v.rolls-Whole n)) ∙ fold-roll-Item ℕ nesting_step (Item-F.Whole n)
 
-nesting-Blob : (bytes : List ℕ) → item_nesting (v.Blob bytes) ≡ 0
+-- a byte string does not nest
+pub nesting-Blob : (bytes : List ℕ) → item_nesting (v.Blob bytes) ≡ 0
 nesting-Blob bytes = ap item_nesting (sym (v.rolls-Blob bytes)) ∙ fold-roll-Item ℕ nesting_step (Item-F.Blob bytes)
 
-nesting-Text : (bytes : List ℕ) → item_nesting (v.Text bytes) ≡ 0
+-- a text does not nest
+pub nesting-Text : (bytes : List ℕ) → item_nesting (v.Text bytes) ≡ 0
 nesting-Text bytes = ap item_nesting (sym (v.rolls-Text bytes)) ∙ fold-roll-Item ℕ nesting_step (Item-F.Text bytes)
 
-rise-Whole : (n : ℕ) → keys_rise (v.Whole n) ≡ true
+-- a whole number has no keys, so they rise
+pub rise-Whole : (n : ℕ) → keys_rise (v.Whole n) ≡ true
 rise-Whole n = ap keys_rise (sym (v.rolls-Whole n)) ∙ fold-roll-Item Bool keys_rise_step (Item-F.Whole n)
 
-rise-Blob : (bytes : List ℕ) → keys_rise (v.Blob bytes) ≡ true
+-- a byte string has no keys, so they rise
+pub rise-Blob : (bytes : List ℕ) → keys_rise (v.Blob bytes) ≡ true
 rise-Blob bytes = ap keys_rise (sym (v.rolls-Blob bytes)) ∙ fold-roll-Item Bool keys_rise_step (Item-F.Blob bytes)
 
-rise-Text : (bytes : List ℕ) → keys_rise (v.Text bytes) ≡ true
+-- a text has no keys, so they rise
+pub rise-Text : (bytes : List ℕ) → keys_rise (v.Text bytes) ≡ true
 rise-Text bytes = ap keys_rise (sym (v.rolls-Text bytes)) ∙ fold-roll-Item Bool keys_rise_step (Item-F.Text bytes)
 
 flat_kept : (levels : ℕ) (item : Item) (count : ℕ) (bytes : List ℕ) → count ≡ 1 → EncodesFlat item bytes → Kept levels item count

@@ -32,9 +32,10 @@ use Rattle.json_tree.specs.Trees.{is_before, each_next, is_lawful, is_in_range, 
 use Rattle.json_tree.specs.Prints.{data_of, members_data, json_of, json_items, json_members, compact_of}
 use Rattle.json_tree.specs.Internal.Writes.{item_json, member_json}
 use Rattle.json_tree.proofs.Induction.{Each, by_cases}
-use Rattle.json_tree.proofs.Rising.{NamesRise, each_next-tail, is_less}
+use Rattle.json_tree.proofs.Rising.{NamesRise}
 use Rattle.json_tree.proofs.TreeLemmas.{is_lawful-List, is_lawful-Object}
 use Rattle.json_tree.proofs.Equations.{is_in_range-Whole, is_in_range-List, is_in_range-Object, holds_version-Version, holds_version-List, holds_version-Object, levels_of-Null, levels_of-Bool, levels_of-Whole, levels_of-Version, levels_of-Text, levels_of-List, levels_of-Object, data_of-Null, data_of-Bool, data_of-Whole, data_of-Version, data_of-Text, data_of-List, data_of-Object, json_of-Null, json_of-Bool, json_of-Whole, json_of-Version, json_of-Text, json_of-List, json_of-Object, datum}
+use Rattle.base_types.proofs.Searching.{each_next-tail, is_less}
 
 -- ---- its depth is the tree's
 

@@ -22,15 +22,11 @@ use Rattle.json_tree.specs.Prints.{members_data, data_step, data_of, json_items,
 use Rattle.json_tree.specs.Internal.Writes.{item_json, member_json}
 use Rattle.json_tree.specs.Places.{first_of, below, is_version_key, misplaced_step, misplaced}
 use Rattle.json_tree.specs.Internal.Misplaced.{first_in_items, first_in_members}
+use Rattle.base_types.proofs.Lists.{map-map}
 
 -- a member with its value's JSON value
 abbrev pub datum : Member Tree → Member Data
 datum m = record { key = m.key; value = data_of m.value }
-
--- images of images are images under both steps
-pub map-map : {X Y Z : Type 0} (f : Y → Z) (g : X → Y) (xs : List X) → map f (map g xs) ≡ map (λ x. f (g x)) xs
-map-map f g [] = refl
-map-map f g (x ∷ xs) = ap (λ ys. f (g x) ∷ ys) (map-map f g xs)
 
 -- ---- is_in_range
 

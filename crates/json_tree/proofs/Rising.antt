@@ -13,6 +13,8 @@ use Rattle.json_tree.specs.declared.tree.Tree.{Tree}
 use Rattle.json_tree.specs.declared.tree.Member.{Member}
 use Rattle.json_tree.specs.Trees.{each_next, is_before}
 use Rattle.json_tree.specs.Places.{value_of}
+use Rattle.base_types.proofs.Orders.{is_before-transitive, is_before-differs}
+use Rattle.base_types.proofs.Searching.{each_next-tail, each_next-at, is_less}
 
 -- `&&` taken apart and put together
 pub left_of : (a b : Bool) → (a && b) ≡ true → a ≡ true
@@ -28,39 +30,7 @@ right_of false b h = absurd (cc)
 pub both_hold : (a b : Bool) → a ≡ true → b ≡ true → (a && b) ≡ true
 both_hold a b p q = rw (p, q)
 
--- the test on a list's images
-pub each_next-map : {X Y : Type 0} (f : X → Y) (test : Y → Y → Bool) (xs : List X) → each_next test (map f xs) ≡ each_next (λ x y. test (f x) (f y)) xs
-each_next-map f test [] = refl
-each_next-map f test (x ∷ []) = refl
-each_next-map f test (x ∷ (y ∷ ys)) = ap (λ b. test (f x) (f y) && b) (each_next-map f test (y ∷ ys))
-
--- what holds of neighbours in a list holds behind its first element
-pub each_next-tail : {X : Type 0} (test : X → X → Bool) (x : X) (xs : List X) → each_next test (x ∷ xs) ≡ true → each_next test xs ≡ true
-each_next-tail test x [] h = refl
-each_next-tail test x (y ∷ ys) h = right_of (test x y) _ h
-
--- each element and the next one
-pub each_next-at : {X : Type 0} (test : X → X → Bool) (xs : List X) (k : ℕ) (d : X) → each_next test xs ≡ true → suc k < length xs → test (get_or xs k d) (get_or xs (suc k) d) ≡ true
-each_next-at test [] k d h l = absurd (omega arith)
-each_next-at test (x ∷ []) k d h l = absurd (omega arith)
-each_next-at test (x ∷ (y ∷ ys)) zero d h l = left_of (test x y) _ h
-each_next-at test (x ∷ (y ∷ ys)) (suc k) d h l = each_next-at test (y ∷ ys) k d (right_of (test x y) _ h) (omega arith)
-
 -- ---- the order of names
-
--- an order that passes the test for less is less
-pub is_less : (o : Ordering) → is_lt o ≡ true → o ≡ Less
-is_less Less h = refl
-is_less Equal h = absurd (cc)
-is_less Greater h = absurd (cc)
-
--- an earlier name comes before each later one
-pub is_before-trans : (a b c : List ℕ) → is_before a b ≡ true → is_before b c ≡ true → is_before a c ≡ true
-is_before-trans a b c p q = ap is_lt (nat_list_cmp_total.trans a b c (is_less _ p) (is_less _ q))
-
--- a name does not come before an equal one, nor after itself
-pub is_before-differs : (a b : List ℕ) → is_before a b ≡ true → bytes_eq a b ≡ false
-is_before-differs a b p = sym (is_eq-slice_cmp a b) ∙ ap is_eq (is_less _ p)
 
 -- the members' names rise
 abbrev pub NamesRise : List (Member Tree) → Type 0
@@ -71,7 +41,7 @@ pub first_is_before : (m : Member Tree) (ms : List (Member Tree)) (k : ℕ) (d :
 first_is_before m [] k d h l = absurd (omega arith)
 first_is_before m (n ∷ ns) zero d h l = left_of (is_before m.key n.key) _ h
 first_is_before m (n ∷ ns) (suc k) d h l =
-    is_before-trans m.key n.key _ (left_of (is_before m.key n.key) _ h) (first_is_before n ns k d (right_of (is_before m.key n.key) _ h) (omega arith))
+    is_before-transitive m.key n.key _ (left_of (is_before m.key n.key) _ h) (first_is_before n ns k d (right_of (is_before m.key n.key) _ h) (omega arith))
 
 -- a name equals itself
 pub bytes_eq-itself : (a : List ℕ) → bytes_eq a a ≡ true

@@ -11,7 +11,8 @@ use Rattle.json_tree.specs.declared.place.Step.{Step}
 use Rattle.json_tree.specs.declared.place.Step.TheVariants.{Key, At}
 use Rattle.json_tree.specs.Trees.{each_next, is_before, lawful_step, is_lawful, AreLawful}
 use Rattle.json_tree.specs.Places.{value_of, child_in, child_of, text_in, text_of, items_in, items_of, members_in, members_of, names_in, names_at}
-use Rattle.json_tree.proofs.Rising.{each_next-map, left_of, right_of}
+use Rattle.json_tree.proofs.Rising.{left_of, right_of}
+use Rattle.base_types.proofs.Searching.{each_next-map}
 
 -- ---- is_lawful
 

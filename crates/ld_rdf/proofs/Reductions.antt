@@ -13,7 +13,7 @@ use Rattle.json_tree.specs.declared.tree.Tree.TheVariants as v
 use Rattle.json_tree.specs.declared.tree.Member.{Member}
 use Rattle.json_tree.specs.Trees.{new_member, is_before, is_lawful, AreLawful}
 use Rattle.json_tree.specs.Places.{text_of, members_in, members_of, value_of}
-use Rattle.json_tree.proofs.Rising.{NamesRise, both_hold, each_next-tail, is_before-trans}
+use Rattle.json_tree.proofs.Rising.{NamesRise, both_hold}
 use Rattle.json_tree.proofs.TreeLemmas.{is_lawful-Object, lawful_members, members_of-Object, members_of-Some, text_of-Text}
 use Rattle.nquads.specs.Terms.{Statement}
 use Rattle.ld_rdf.specs.Flat.{at_context, at_id, property_statement}
@@ -21,7 +21,8 @@ use Rattle.ld_rdf.specs.Reduced.{with_members_in, with_members, without_key, put
 use Rattle.ld_rdf.specs.Internal.Parts.{member_text, property_of, is_id_or_context, is_left_out, text_beside, statements_beside}
 use Rattle.ld_rdf.proofs.WholeRequests.{statements_in}
 use Rattle.ld_rdf.proofs.OptionsAndLists.{and_left, and_right}
-use Rattle.base_types.proofs.Orders.{bytes_eq-true, bytes_eq-same, is_before-other_way, bytes_eq-false, bytes_eq-differ}
+use Rattle.base_types.proofs.Orders.{bytes_eq-true, bytes_eq-same, is_before-other_way, bytes_eq-false, bytes_eq-differ, is_before-transitive}
+use Rattle.base_types.proofs.Searching.{each_next-tail}
 
 -- ---- names that rise, by the first against all others
 
@@ -31,7 +32,7 @@ after key ms = list_all (λ n. is_before key n.key) ms
 after-earlier : (a b : List ℕ) (ms : List (Member Tree)) → is_before a b ≡ true → after b ms ≡ true → after a ms ≡ true
 after-earlier a b [] h all = refl
 after-earlier a b (n ∷ ns) h all =
-    both_hold (is_before a n.key) (after a ns) (is_before-trans a b n.key h (and_left (is_before b n.key) _ all)) (after-earlier a b ns h (and_right (is_before b n.key) _ all))
+    both_hold (is_before a n.key) (after a ns) (is_before-transitive a b n.key h (and_left (is_before b n.key) _ all)) (after-earlier a b ns h (and_right (is_before b n.key) _ all))
 
 after-first : (m : Member Tree) (ms : List (Member Tree)) → NamesRise (m ∷ ms) → after m.key ms ≡ true
 after-first m [] rise = refl

@@ -10,10 +10,7 @@ use Rattle.proof_cbor.specs.declared.fault.ValueFault.TheVariants as fault
 use Rattle.cbor_core.specs.Internal.Results.{◌>>=◌, Fails}
 use Rattle.cbor_core.proofs.Outcomes.{fails_on}
 use Rattle.proof_cbor.specs.Internal.Reading.{is_memory, each_is, one_of, ones_from, ones_of}
-
--- the items from i on are the item there and those behind it
-pub from : {X : Type 0} (xs : List X) (i : ℕ) (x : X) → i < length xs → x ≡ get_or xs i x → drop i xs ≡ x ∷ drop (i + 1) xs
-from {X = X} xs i x lt is = rw add-one (drop-cons xs i x lt ∙ ap (λ (y : X). y ∷ drop (suc i) xs) (sym is))
+use Rattle.base_types.proofs.Lists.{drop-next}
 
 joined : {Y : Type 0} (done : List Y) (y : Y) (o : Option (List Y)) → option_map (λ rest. done ++ rest) (option_map (λ ys. y ∷ ys) o) ≡ option_map (λ rest. (done ++ y ∷ []) ++ rest) o
 joined done y None = refl
@@ -24,7 +21,7 @@ pub each_more : {X Y : Type 0} (kind : X → Option Y) (xs : List X) (i : ℕ) (
     → option_map (λ rest. done ++ rest) (each_is kind (drop i xs)) ≡ whole → option_map (λ rest. (done ++ y ∷ []) ++ rest) (each_is kind (drop (i + 1) xs)) ≡ whole
 unfolding each_is
 each_more kind xs i x y done whole lt is e so_far =
-    let one : option_map (λ rest. done ++ rest) (each_is kind (drop i xs)) ≡ option_map (λ rest. (done ++ y ∷ []) ++ rest) (each_is kind (drop (i + 1) xs)) = rw (from xs i x lt is, e) (joined done y (each_is kind (drop (i + 1) xs))) in
+    let one : option_map (λ rest. done ++ rest) (each_is kind (drop i xs)) ≡ option_map (λ rest. (done ++ y ∷ []) ++ rest) (each_is kind (drop (i + 1) xs)) = rw (drop-next xs i x lt is, e) (joined done y (each_is kind (drop (i + 1) xs))) in
     sym one ∙ so_far
 
 -- where the next item is not of the kind, the whole is not of it
@@ -32,7 +29,7 @@ pub each_stops : {X Y : Type 0} (kind : X → Option Y) (xs : List X) (i : ℕ) 
     → option_map (λ rest. done ++ rest) (each_is kind (drop i xs)) ≡ whole → whole ≡ None
 unfolding each_is
 each_stops kind xs i x done whole lt is e so_far =
-    let one : option_map (λ rest. done ++ rest) (each_is kind (drop i xs)) ≡ None = rw (from xs i x lt is, e) refl in
+    let one : option_map (λ rest. done ++ rest) (each_is kind (drop i xs)) ≡ None = rw (drop-next xs i x lt is, e) refl in
     sym so_far ∙ one
 
 -- past the last item, the whole is what was gathered
@@ -54,14 +51,14 @@ still y (Some ys) = refl
 pub all_more : {X Y : Type 0} (kind : X → Option Y) (xs : List X) (i : ℕ) (x : X) (y : Y) (whole : Bool) → i < length xs → x ≡ get_or xs i x → kind x ≡ Some y → is_some (each_is kind (drop i xs)) ≡ whole → is_some (each_is kind (drop (i + 1) xs)) ≡ whole
 unfolding each_is
 all_more kind xs i x y whole lt is e so_far =
-    let one : is_some (each_is kind (drop i xs)) ≡ is_some (each_is kind (drop (i + 1) xs)) = rw (from xs i x lt is, e) (still y (each_is kind (drop (i + 1) xs))) in
+    let one : is_some (each_is kind (drop i xs)) ≡ is_some (each_is kind (drop (i + 1) xs)) = rw (drop-next xs i x lt is, e) (still y (each_is kind (drop (i + 1) xs))) in
     sym one ∙ so_far
 
 -- where the next item is not of the kind, not all are
 pub all_stops : {X Y : Type 0} (kind : X → Option Y) (xs : List X) (i : ℕ) (x : X) (whole : Bool) → i < length xs → x ≡ get_or xs i x → kind x ≡ None → is_some (each_is kind (drop i xs)) ≡ whole → false ≡ whole
 unfolding each_is
 all_stops kind xs i x whole lt is e so_far =
-    let one : is_some (each_is kind (drop i xs)) ≡ false = rw (from xs i x lt is, e) refl in
+    let one : is_some (each_is kind (drop i xs)) ≡ false = rw (drop-next xs i x lt is, e) refl in
     sym one ∙ so_far
 
 -- past the last item, all are of the kind
@@ -96,13 +93,13 @@ module _ {X Y : Type 0} (kind : X → Option Y) (size : Y → ℕ) (at : Part) (
   pub ones_more : (xs : List X) (i : ℕ) (done : List Y) (whole : Result (List Y) ValueFault) (x : X) (c : Y) → i < length xs → x ≡ get_or xs i x → one_of kind size at n x ≡ Ok c → ones_from kind size at n done (drop i xs) ≡ whole → ones_from kind size at n (done ++ c ∷ []) (drop (i + 1) xs) ≡ whole
   unfolding ones_from
   ones_more xs i done whole x c lt is h so_far =
-      let one : ones_from kind size at n done (drop i xs) ≡ ones_from kind size at n (done ++ c ∷ []) (drop (i + 1) xs) = rw (from xs i x lt is, h) refl in
+      let one : ones_from kind size at n done (drop i xs) ≡ ones_from kind size at n (done ++ c ∷ []) (drop (i + 1) xs) = rw (drop-next xs i x lt is, h) refl in
       sym one ∙ so_far
 
   pub ones_fail : (xs : List X) (i : ℕ) (done : List Y) (whole : Result (List Y) ValueFault) (e : ValueFault) (x : X) → i < length xs → x ≡ get_or xs i x → Fails is_memory e (one_of kind size at n x) → ones_from kind size at n done (drop i xs) ≡ whole → Fails is_memory e whole
   unfolding ones_from
   ones_fail xs i done whole e x lt is h so_far =
-      let one : ones_from kind size at n done (drop i xs) ≡ (one_of kind size at n x >>= λ c. ones_from kind size at n (done ++ c ∷ []) (drop (i + 1) xs)) = rw (from xs i x lt is) refl in
+      let one : ones_from kind size at n done (drop i xs) ≡ (one_of kind size at n x >>= λ c. ones_from kind size at n (done ++ c ∷ []) (drop (i + 1) xs)) = rw (drop-next xs i x lt is) refl in
       subst (λ (r : Result (List Y) ValueFault). Fails is_memory e r) (sym one ∙ so_far) (fails_on is_memory e (one_of kind size at n x) (λ c. ones_from kind size at n (done ++ c ∷ []) (drop (i + 1) xs)) h)
 
   pub ones_end : (xs : List X) (i : ℕ) (done : List Y) (whole : Result (List Y) ValueFault) → length xs ≤ i → ones_from kind size at n done (drop i xs) ≡ whole → whole ≡ Ok done

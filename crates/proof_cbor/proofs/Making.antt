@@ -17,7 +17,7 @@ use Rattle.cbor_core.proofs.Writes.{fits-Blob, fits-List}
 use Rattle.cbor_core.specs.Grammar.{Encodes}
 use Rattle.base_types.specs.declared.memory.Memory.{Memory}
 use Rattle.proof_cbor.specs.Internal.Reading.{reading_base, reading_derived}
-use Rattle.cbor_core.proofs.Sorted.{kept}
+use Rattle.cbor_core.proofs.Sorted.{kept, nesting-Whole, rise-Whole, nesting-Blob, rise-Blob, nesting-Text, rise-Text}
 use Rattle.proof_cbor.specs.declared.fault.ValueFault.{ValueFault}
 use Rattle.proof_cbor.proofs.Spelled.{base_read, derived_read}
 use Rattle.proof_cbor.specs.declared.value.BaseValue.{BaseValue}
@@ -75,24 +75,6 @@ digests_end es i le so_far = ap digests_sized (sym (take_all i es le)) ∙ so_fa
 
 -- ---- what may be written
 
-rise_blob : (c : List ℕ) → keys_rise (v.Blob c) ≡ true
-rise_blob c = ap keys_rise (sym (v.rolls-Blob c)) ∙ fold-roll-Item Bool keys_rise_step (Item-F.Blob c)
-
-rise_text : (c : List ℕ) → keys_rise (v.Text c) ≡ true
-rise_text c = ap keys_rise (sym (v.rolls-Text c)) ∙ fold-roll-Item Bool keys_rise_step (Item-F.Text c)
-
-rise_whole : (n : ℕ) → keys_rise (v.Whole n) ≡ true
-rise_whole n = ap keys_rise (sym (v.rolls-Whole n)) ∙ fold-roll-Item Bool keys_rise_step (Item-F.Whole n)
-
-nest_blob : (c : List ℕ) → item_nesting (v.Blob c) ≡ 0
-nest_blob c = ap item_nesting (sym (v.rolls-Blob c)) ∙ fold-roll-Item ℕ nesting_step (Item-F.Blob c)
-
-nest_text : (c : List ℕ) → item_nesting (v.Text c) ≡ 0
-nest_text c = ap item_nesting (sym (v.rolls-Text c)) ∙ fold-roll-Item ℕ nesting_step (Item-F.Text c)
-
-nest_whole : (n : ℕ) → item_nesting (v.Whole n) ≡ 0
-nest_whole n = ap item_nesting (sym (v.rolls-Whole n)) ∙ fold-roll-Item ℕ nesting_step (Item-F.Whole n)
-
 module _ {Y : Type 0} (con : Y → Item) where
   each_rise : ((y : Y) → keys_rise (con y) ≡ true) → (ys : List Y) → list_all keys_rise (map con ys) ≡ true
   each_rise h [] = refl
@@ -117,11 +99,11 @@ keys_are (e ∷ es) = ap (λ (z : List ℕ). e.number ∷ z) (keys_are es)
 
 values_rise : (es : List MapEntry) → list_all (λ (p : Pair Item). keys_rise p.value) (map pair_of es) ≡ true
 values_rise [] = refl
-values_rise (e ∷ es) = rw (rise_blob e.digest) (values_rise es)
+values_rise (e ∷ es) = rw (rise-Blob e.digest) (values_rise es)
 
 values_nest : (es : List MapEntry) → largest_over (λ (p : Pair Item). item_nesting p.value) (map pair_of es) ≡ 0
 values_nest [] = refl
-values_nest (e ∷ es) = let first = nest_blob e.digest in let rest = values_nest es in omega arith
+values_nest (e ∷ es) = let first = nesting-Blob e.digest in let rest = values_nest es in omega arith
 
 labels_rise : (es : List MapEntry) → rise (map number_of es) ≡ true → keys_rise (v.Map (map pair_of es)) ≡ true
 labels_rise es r = rise-Map (map pair_of es) ∙ rw (keys_are es, r, values_rise es) refl
@@ -139,33 +121,33 @@ module _ (a b c d e : Item) where
 -- the keys of each map in the item of a base value rise
 pub base_rises : (value : BaseValue) (item : Item) → item ≡ base_item value → keys_rise item ≡ true
 unfolding base_item
-base_rises value item is = ap keys_rise is ∙ five_rise _ _ _ _ _ (rise_blob value.signature) (rise_blob value.key) (rise_blob value.secret) (list_rises v.Blob rise_blob value.signatures) (list_rises v.Text rise_text value.pointers)
+base_rises value item is = ap keys_rise is ∙ five_rise _ _ _ _ _ (rise-Blob value.signature) (rise-Blob value.key) (rise-Blob value.secret) (list_rises v.Blob rise-Blob value.signatures) (list_rises v.Text rise-Text value.pointers)
 
 -- the item of a base value nests at most 4 deep
 pub base_nests : (value : BaseValue) (item : Item) → item ≡ base_item value → item_nesting item ≤ 4
 unfolding base_item
 base_nests value item is =
-    let n1 = nest_blob value.signature in
-    let n2 = nest_blob value.key in
-    let n3 = nest_blob value.secret in
-    let n4 = list_nests v.Blob nest_blob value.signatures in
-    let n5 = list_nests v.Text nest_text value.pointers in
+    let n1 = nesting-Blob value.signature in
+    let n2 = nesting-Blob value.key in
+    let n3 = nesting-Blob value.secret in
+    let n4 = list_nests v.Blob nesting-Blob value.signatures in
+    let n5 = list_nests v.Text nesting-Text value.pointers in
     subst (λ (i : Item). item_nesting i ≤ 4) (sym is) (five_nest (v.Blob value.signature) (v.Blob value.key) (v.Blob value.secret) (v.List (map v.Blob value.signatures)) (v.List (map v.Text value.pointers)) (omega (arith, n1)) (omega (arith, n2)) (omega (arith, n3)) (omega (arith, n4)) (omega (arith, n5)))
 
 -- the keys of each map in the item of a derived value rise, if the numbers of its labels do
 pub derived_rises : (value : DerivedValue) (item : Item) → rise (map number_of value.labels) ≡ true → item ≡ derived_item value → keys_rise item ≡ true
 unfolding derived_item
-derived_rises value item r is = ap keys_rise is ∙ five_rise _ _ _ _ _ (rise_blob value.signature) (rise_blob value.key) (list_rises v.Blob rise_blob value.signatures) (labels_rise value.labels r) (list_rises v.Whole rise_whole value.indexes)
+derived_rises value item r is = ap keys_rise is ∙ five_rise _ _ _ _ _ (rise-Blob value.signature) (rise-Blob value.key) (list_rises v.Blob rise-Blob value.signatures) (labels_rise value.labels r) (list_rises v.Whole rise-Whole value.indexes)
 
 -- the item of a derived value nests at most 4 deep
 pub derived_nests : (value : DerivedValue) (item : Item) → item ≡ derived_item value → item_nesting item ≤ 4
 unfolding derived_item
 derived_nests value item is =
-    let n1 = nest_blob value.signature in
-    let n2 = nest_blob value.key in
-    let n3 = list_nests v.Blob nest_blob value.signatures in
+    let n1 = nesting-Blob value.signature in
+    let n2 = nesting-Blob value.key in
+    let n3 = list_nests v.Blob nesting-Blob value.signatures in
     let n4 = labels_nest value.labels in
-    let n5 = list_nests v.Whole nest_whole value.indexes in
+    let n5 = list_nests v.Whole nesting-Whole value.indexes in
     subst (λ (i : Item). item_nesting i ≤ 4) (sym is) (five_nest (v.Blob value.signature) (v.Blob value.key) (v.List (map v.Blob value.signatures)) (v.Map (map pair_of value.labels)) (v.List (map v.Whole value.indexes)) (omega (arith, n1)) (omega (arith, n2)) (omega (arith, n3)) (omega (arith, n4)) (omega (arith, n5)))
 
 pub ruleset may_steps = (base_rises, base_nests, derived_rises, derived_nests)

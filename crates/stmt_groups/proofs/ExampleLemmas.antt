@@ -28,15 +28,12 @@ use Rattle.stmt_groups.specs.Soundness.{KeysServeOnce, NoCollision, NoTextsColli
 use Rattle.stmt_groups.specs.Records.{Signing, history_signings, HasLines, IsRecord, IsSplit}
 use Rattle.stmt_groups.proofs.Covering.{exact_forges_nothing, entry_signing}
 use Rattle.stmt_groups.proofs.Revealing.{record_has_lines}
+use Rattle.std.proofs.lemmas.Bool.{not-true}
 
 -- ---- statements
 
-not_back : (b : Bool) → not b ≡ true → b ≡ false
-not_back true p = absurd (cc)
-not_back false p = refl
-
 admitted : (text : List ℕ) → list_all (λ c. not (is_forbidden c)) text ≡ true → HasIriCharacters text
-admitted text p = λ k d l. not_back (is_forbidden (get_or text k d)) (AllPass-from_list_all (λ c. not (is_forbidden c)) text p k d l)
+admitted text p = λ k d l. not-true (is_forbidden (get_or text k d)) (AllPass-from_list_all (λ c. not (is_forbidden c)) text p k d l)
 
 is_statement : (value : List ℕ) → list_all (λ c. not (is_forbidden c)) value ≡ true → IsStatement (statement value)
 is_statement value p = record {

@@ -3,7 +3,7 @@ use Rattle.std.proofs.Common.{◌≡◌, ℕ, Bool, true, false, List, [], ◌�
 use Rattle.std.specs.Str.{bytes_eq}
 use Rattle.std.specs.List.{list_all, list_any}
 use Rattle.std.proofs.lemmas.Bool.{cases_Bool}
-use Rattle.base_types.proofs.Lists.{Contains-here, Contains-map, Contains-there}
+use Rattle.base_types.proofs.Lists.{Contains-here, Contains-map, Contains-there, same_some}
 use Rattle.json_tree.specs.declared.tree.Tree.{Tree, out-Tree}
 use Rattle.json_tree.specs.declared.tree.Tree.TheVariants as v
 use Rattle.json_tree.specs.declared.tree.Member.{Member}
@@ -16,7 +16,7 @@ use Rattle.json_tree.proofs.TreeLemmas.{child_of-Object-Key, is_lawful-Text, mem
 use Rattle.json_tree.proofs.Equations.{holds_version-Object, holds_version-Text, is_in_range-Object}
 use Rattle.ld_rdf.specs.Flat.{HasText, IsFlat, at_context, at_id, document_place}
 use Rattle.ld_rdf.specs.Reduced.{put_member, statements_request, with_context}
-use Rattle.ld_rdf.proofs.OptionsAndLists.{option_map-Some, same_text, equal_text}
+use Rattle.ld_rdf.proofs.OptionsAndLists.{option_map-Some}
 use Rattle.ld_rdf.proofs.Shapes.{members_are_lawful}
 use Rattle.ld_rdf.proofs.Meaning.{value_at_member}
 use Rattle.vc_cli.specs.declared.requests.IssueRead.{IssueRead}
@@ -28,6 +28,7 @@ use Rattle.vc_cli.specs.Internal.Drafts.{IsObject, IsPrintable}
 use Rattle.vc_cli.specs.Internal.Parts.{IsIssueRead}
 use Rattle.vc_cli.proofs.Looks.{look_in, members_of-changed}
 use Rattle.vc_cli.proofs.Putting.{put_contains, with_member-lawful}
+use Rattle.base_types.proofs.Orders.{bytes_eq-true, bytes_eq-same}
 
 abbrev keys : List (Member Tree) → List (List ℕ)
 keys ms = map (λ m. m.key) ms
@@ -48,9 +49,6 @@ pub record Texts (t : Tree) : Type 0 where
   pub is : members_of t ≡ Some members
   pub texts : (m : Member Tree) → Contains members m → (text : List ℕ) × (m.value ≡ v.Text text)
 
-same_some : {A : Type 0} (o : Option A) (x y : A) → o ≡ Some x → o ≡ Some y → x ≡ y
-same_some o x y p q = cc
-
 module _ (c d : Tree) (f : IsFlat (statements_request c d)) (lawful : is_lawful d ≡ true) where
   text_member : (ms : List (Member Tree)) (m : Member Tree) (key text : List ℕ) → members_of d ≡ Some ms → value_of m.key ms ≡ Some m.value → m.key ≡ key → HasText (document_place key) (statements_request c d) text → m.value ≡ v.Text text
   text_member ms m key text is here named has =
@@ -67,12 +65,12 @@ module _ (c d : Tree) (f : IsFlat (statements_request c d)) (lawful : is_lawful 
         texts = λ m con.
             let here = value_at_member found.0 m all con in
             elim (cases_Bool (bytes_eq m.key at_id)) [
-              | inl id ↦ (f.id, text_member found.0 m at_id f.id found.1 here (same_text m.key at_id id) f.identified)
+              | inl id ↦ (f.id, text_member found.0 m at_id f.id found.1 here (bytes_eq-true m.key at_id id) f.identified)
               | inr no_id ↦ elim (cases_Bool (bytes_eq m.key at_context)) [
-                | inl context ↦ (f.name, text_member found.0 m at_context f.name found.1 here (same_text m.key at_context context) f.chosen)
+                | inl context ↦ (f.name, text_member found.0 m at_context f.name found.1 here (bytes_eq-true m.key at_context context) f.chosen)
                 | inr no_context ↦
                     let known : Contains f.names m.key = subst (λ (l : List (List ℕ)). Contains l m.key) found.2 (Contains-map (λ (k : Member Tree). k.key) found.0 m con) in
-                    let value = f.values m.key known (λ e. let t : bytes_eq m.key at_id ≡ true = equal_text m.key at_id e in absurd (cc)) (λ e. let t : bytes_eq m.key at_context ≡ true = equal_text m.key at_context e in absurd (cc)) in
+                    let value = f.values m.key known (λ e. let t : bytes_eq m.key at_id ≡ true = bytes_eq-same m.key at_id e in absurd (cc)) (λ e. let t : bytes_eq m.key at_context ≡ true = bytes_eq-same m.key at_context e in absurd (cc)) in
                     (value.text, text_member found.0 m m.key value.text found.1 here refl value.is)
               ]
             ];

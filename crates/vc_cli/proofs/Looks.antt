@@ -15,9 +15,10 @@ use Rattle.json_tree.proofs.TreeLemmas.{child_of-members, members_lawful, member
 use Rattle.ld_rdf.specs.Flat.{HasText, at_context}
 use Rattle.ld_rdf.specs.Internal.Parts.{only_if}
 use Rattle.ld_rdf.specs.Reduced.{with_members, with_members_in, without, without_key}
-use Rattle.ld_rdf.proofs.OptionsAndLists.{and_then-Some, provided-Some, map_or-true, same_text, equal_text}
+use Rattle.ld_rdf.proofs.OptionsAndLists.{and_then-Some, provided-Some, map_or-true}
 use Rattle.vc_cli.specs.Requests.{HasShape, at, value_name}
 use Rattle.vc_cli.specs.Internal.Parts.{has_form, has_text, lacks, method_in, text_under}
+use Rattle.base_types.proofs.Orders.{bytes_eq-true, bytes_eq-same}
 
 -- ---- one step
 
@@ -57,12 +58,12 @@ some_from None h = absurd (cc)
 some_from (Some x) h = (x, refl)
 
 has_text-from : (key text : List ℕ) (t : Tree) → HasText (at key) t text → has_text key text t ≡ true
-has_text-from key text t h = rw (text_under-from key t text h) (equal_text text text refl)
+has_text-from key text t h = rw (text_under-from key t text h) (bytes_eq-same text text refl)
 
 has_text-true : (key text : List ℕ) (t : Tree) → has_text key text t ≡ true → HasText (at key) t text
 has_text-true key text t h =
     let f = map_or-true (λ s. bytes_eq s text) (text_under key t) h in
-    text_under-Some key t text (f.1 ∙ ap Some (same_text f.0 text f.2))
+    text_under-Some key t text (f.1 ∙ ap Some (bytes_eq-true f.0 text f.2))
 
 -- ---- the form of options
 
@@ -184,7 +185,7 @@ value_of-without key other [] differ = refl
 value_of-without key other (m ∷ ms) differ =
     elim (cases_Bool (bytes_eq m.key other)) [
       | inl this ↦
-          let apart : bytes_eq m.key key ≡ false = ap (λ (k : List ℕ). bytes_eq k key) (same_text m.key other this) ∙ differ in
+          let apart : bytes_eq m.key key ≡ false = ap (λ (k : List ℕ). bytes_eq k key) (bytes_eq-true m.key other this) ∙ differ in
           rw (this, apart) (value_of-without key other ms differ)
       | inr kept ↦ elim (cases_Bool (bytes_eq m.key key)) [ inl here ↦ rw (kept, here) refl | inr other_key ↦ rw (kept, other_key) (value_of-without key other ms differ) ]
     ]

@@ -14,13 +14,15 @@ use Rattle.nquads.specs.Spelling.{text_quad}
 use Rattle.ld_rdf.specs.Flat.{IsFlat, IsFlatMeaning, Means, at_context}
 use Rattle.ld_rdf.specs.Internal.Parts.{only_if}
 use Rattle.ld_rdf.specs.Reduced.{statements_request, with_context, without}
-use Rattle.ld_rdf.proofs.OptionsAndLists.{and_then-Some, option_map-Some, provided-Some, same_text}
+use Rattle.ld_rdf.proofs.OptionsAndLists.{and_then-Some, option_map-Some, provided-Some}
 use Rattle.vc_cli.specs.declared.requests.IssueRead.{IssueRead}
 use Rattle.vc_cli.specs.declared.tasks.VerifyTask.{VerifyTask}
 use Rattle.vc_cli.specs.Requests.{HasShape, IsFlatIssue, IsFlatVerify, IsIssue, IsKeyTable, IsVerify, IssueParts, VerifyParts, at, issue_object, proof_name, value_name, whole_document}
 use Rattle.vc_cli.specs.Internal.Tasks.{IsVerifyTask}
 use Rattle.vc_cli.specs.Internal.Parts.{IsIssueRead, five_in, five_of, issue_names, lacks, method_in, proof_parts, text_under, three_in, three_of}
 use Rattle.vc_cli.proofs.Looks.{SameBeside, form_from, form_of, look_removed, look_without, method_from, none_from, shape_from, text_under-from, text_under-Some, without_absent}
+use Rattle.base_types.proofs.Lists.{same_some}
+use Rattle.base_types.proofs.Orders.{bytes_eq-true}
 
 -- ---- the members
 
@@ -75,11 +77,11 @@ five_in-Some (c ∷ (d ∷ (k ∷ (m ∷ (o ∷ []))))) p h =
     let values : Five = (c.value, d.value, k.value, m.value, o.value) in
     let given = provided-Some (bytes_eq c.key (codes "contexts") && bytes_eq d.key (codes "document") && bytes_eq k.key (codes "keys") && bytes_eq m.key (codes "mandatory") && bytes_eq o.key (codes "options")) (Some values) p h in
     let g = five (bytes_eq c.key (codes "contexts")) (bytes_eq d.key (codes "document")) (bytes_eq k.key (codes "keys")) (bytes_eq m.key (codes "mandatory")) (bytes_eq o.key (codes "options")) given.0 in
-    let a = same_text c.key (codes "contexts") g.0 in
-    let b = same_text d.key (codes "document") g.1 in
-    let e = same_text k.key (codes "keys") g.2 in
-    let f = same_text m.key (codes "mandatory") g.3 in
-    let i = same_text o.key (codes "options") g.4 in
+    let a = bytes_eq-true c.key (codes "contexts") g.0 in
+    let b = bytes_eq-true d.key (codes "document") g.1 in
+    let e = bytes_eq-true k.key (codes "keys") g.2 in
+    let f = bytes_eq-true m.key (codes "mandatory") g.3 in
+    let i = bytes_eq-true o.key (codes "options") g.4 in
     let same : values ≡ p = some_same values p given.1 in
     let named : (c ∷ (d ∷ (k ∷ (m ∷ (o ∷ []))))) ≡ entries values = (λ j. new_member (a j) c.value ∷ new_member (b j) d.value ∷ new_member (e j) k.value ∷ new_member (f j) m.value ∷ new_member (i j) o.value ∷ []) in
     named ∙ ap entries same
@@ -96,9 +98,9 @@ three_in-Some (c ∷ (d ∷ (k ∷ []))) p h =
     let values : Three = (c.value, d.value, k.value) in
     let given = provided-Some (bytes_eq c.key (codes "contexts") && bytes_eq d.key (codes "document") && bytes_eq k.key (codes "keys")) (Some values) p h in
     let g = three (bytes_eq c.key (codes "contexts")) (bytes_eq d.key (codes "document")) (bytes_eq k.key (codes "keys")) given.0 in
-    let a = same_text c.key (codes "contexts") g.0 in
-    let b = same_text d.key (codes "document") g.1 in
-    let e = same_text k.key (codes "keys") g.2 in
+    let a = bytes_eq-true c.key (codes "contexts") g.0 in
+    let b = bytes_eq-true d.key (codes "document") g.1 in
+    let e = bytes_eq-true k.key (codes "keys") g.2 in
     let same : values ≡ p = some_same values p given.1 in
     let named : (c ∷ (d ∷ (k ∷ []))) ≡ three_entries values = (λ j. new_member (a j) c.value ∷ new_member (b j) d.value ∷ new_member (e j) k.value ∷ []) in
     named ∙ ap three_entries same
@@ -131,9 +133,6 @@ three_of-object c d k = ap (option_and_then three_in) (members_of-Object (three_
 -- the statements of a flat meaning are statements
 pub all_meant : (r : Tree) (q : List Statement) → IsFlatMeaning r q → ((s : Statement) → Means r s → IsStatement s) → All IsStatement q
 all_meant r q m each = λ k d h. each (get_or q k d) ((m.exact (get_or q k d)).0 (Contains-get_or q k d h))
-
-same_some : {A : Type 0} (o : Option A) (x y : A) → o ≡ Some x → o ≡ Some y → x ≡ y
-same_some o x y p q = cc
 
 none_some : {A : Type 0} (o : Option A) (x : A) → o ≡ None → o ≡ Some x → ⊥
 none_some o x p q = absurd (cc)

@@ -4,7 +4,7 @@ use Rattle.std.specs.Str.{bytes_eq}
 use Rattle.std.specs.Ordering.{nat_cmp, is_lt, is_eq, ordering_reverse}
 use Rattle.std.specs.Cmp.Lexicographic.{slice_cmp}
 use Rattle.std.specs.List.{list_all, list_any}
-use Rattle.std.proofs.lemmas.Bool.{cases_Bool}
+use Rattle.std.proofs.lemmas.Bool.{cases_Bool, not-true}
 use Rattle.std.proofs.lemmas.Cmp.{nat_list_cmp_total}
 use Rattle.std.proofs.lemmas.Map.Text.{is_eq-slice_cmp}
 use Rattle.base_types.proofs.Lists.{Contains-here, Contains-there, Contains-cons_cases}
@@ -12,23 +12,12 @@ use Rattle.json_tree.specs.declared.tree.Tree.{Tree}
 use Rattle.json_tree.specs.declared.tree.Tree.TheVariants as v
 use Rattle.json_tree.specs.declared.tree.Member.{Member}
 use Rattle.json_tree.specs.Trees.{each_next, new_member, holds_version, is_before, is_in_range, is_lawful}
-use Rattle.json_tree.proofs.Rising.{NamesRise, left_of, right_of, both_hold, is_before-differs}
+use Rattle.json_tree.proofs.Rising.{NamesRise, left_of, right_of, both_hold}
 use Rattle.json_tree.proofs.TreeLemmas.{is_lawful-Object, is_lawful-Text}
 use Rattle.json_tree.proofs.Equations.{is_in_range-Object, is_in_range-Text, holds_version-Object, holds_version-Text}
 use Rattle.ld_rdf.specs.Reduced.{with_members_in, put_member, with_member}
-use Rattle.ld_rdf.proofs.OptionsAndLists.{same_text, equal_text}
 use Rattle.vc_cli.specs.Internal.Drafts.{IsObject, IsPrintable, with_value_at, place_of}
-
--- ---- the order of names
-
-after : (o : Ordering) → is_lt o ≡ false → is_eq o ≡ false → is_lt (ordering_reverse o) ≡ true
-after Less p q = absurd (cc)
-after Equal p q = absurd (cc)
-after Greater p q = refl
-
--- of two names that differ the one that does not come first comes later
-pub is_after : (a b : List ℕ) → is_before a b ≡ false → bytes_eq a b ≡ false → is_before b a ≡ true
-is_after a b p q = ap is_lt (nat_list_cmp_total.antisymm b a) ∙ after (slice_cmp nat_cmp a b) p (is_eq-slice_cmp a b ∙ q)
+use Rattle.base_types.proofs.Orders.{is_before-differs, is_before-other_way, bytes_eq-true, bytes_eq-same}
 
 -- ---- members put in
 
@@ -52,8 +41,8 @@ module _ (x : Member Tree) where
       elim (cases_Bool (is_before x.key y.key)) [
         | inl low ↦ subst (λ (l : List (Member Tree)). NamesRise (n ∷ l)) (sym (put_before y ys low)) (both_hold (is_before n.key x.key) _ h (both_hold (is_before x.key y.key) _ low (right_of (is_before n.key y.key) _ r)))
         | inr high ↦ elim (cases_Bool (bytes_eq x.key y.key)) [
-          | inl same ↦ subst (λ (l : List (Member Tree)). NamesRise (n ∷ l)) (sym (put_instead y ys high same)) (both_hold (is_before n.key x.key) _ h (rises_instead y ys (same_text x.key y.key same) (right_of (is_before n.key y.key) _ r)))
-          | inr other ↦ subst (λ (l : List (Member Tree)). NamesRise (n ∷ l)) (sym (put_after y ys high other)) (both_hold (is_before n.key y.key) _ (left_of (is_before n.key y.key) _ r) (put_behind y ys (is_after x.key y.key high other) (right_of (is_before n.key y.key) _ r)))
+          | inl same ↦ subst (λ (l : List (Member Tree)). NamesRise (n ∷ l)) (sym (put_instead y ys high same)) (both_hold (is_before n.key x.key) _ h (rises_instead y ys (bytes_eq-true x.key y.key same) (right_of (is_before n.key y.key) _ r)))
+          | inr other ↦ subst (λ (l : List (Member Tree)). NamesRise (n ∷ l)) (sym (put_after y ys high other)) (both_hold (is_before n.key y.key) _ (left_of (is_before n.key y.key) _ r) (put_behind y ys (is_before-other_way x.key y.key high other) (right_of (is_before n.key y.key) _ r)))
         ]
       ]
 
@@ -63,8 +52,8 @@ module _ (x : Member Tree) where
       elim (cases_Bool (is_before x.key y.key)) [
         | inl low ↦ subst NamesRise (sym (put_before y ys low)) (both_hold (is_before x.key y.key) _ low r)
         | inr high ↦ elim (cases_Bool (bytes_eq x.key y.key)) [
-          | inl same ↦ subst NamesRise (sym (put_instead y ys high same)) (rises_instead y ys (same_text x.key y.key same) r)
-          | inr other ↦ subst NamesRise (sym (put_after y ys high other)) (put_behind y ys (is_after x.key y.key high other) r)
+          | inl same ↦ subst NamesRise (sym (put_instead y ys high same)) (rises_instead y ys (bytes_eq-true x.key y.key same) r)
+          | inr other ↦ subst NamesRise (sym (put_after y ys high other)) (put_behind y ys (is_before-other_way x.key y.key high other) r)
         ]
       ]
 
@@ -86,7 +75,7 @@ module _ (x : Member Tree) where
         | inl low ↦ inl (subst (λ (l : List (Member Tree)). Contains l m) (sym (put_before y ys low)) (Contains-there x (y ∷ ys) m c))
         | inr high ↦ elim (cases_Bool (bytes_eq x.key y.key)) [
           | inl same ↦ elim (Contains-cons_cases y ys m c) [
-            | inl e ↦ inr (same_text x.key y.key same ∙ ap (λ (z : Member Tree). z.key) e)
+            | inl e ↦ inr (bytes_eq-true x.key y.key same ∙ ap (λ (z : Member Tree). z.key) e)
             | inr d ↦ inl (subst (λ (l : List (Member Tree)). Contains l m) (sym (put_instead y ys high same)) (Contains-there x ys m d))
           ]
           | inr other ↦ elim (Contains-cons_cases y ys m c) [
@@ -119,10 +108,6 @@ with_member-in_range key value ms one all =
     ap is_in_range (with_member-Object key value ms) ∙ is_in_range-Object (put_member (new_member key value) ms)
     ∙ put_all (new_member key value) (λ m. is_in_range m.value) ms one (sym (is_in_range-Object ms) ∙ all)
 
-so_not : (b : Bool) → not b ≡ true → b ≡ false
-so_not true h = absurd (cc)
-so_not false h = refl
-
 no_left : (a b : Bool) → (a || b) ≡ false → a ≡ false
 no_left true b h = absurd (cc)
 no_left false b h = refl
@@ -134,7 +119,7 @@ no_right false b h = h
 -- none of a list where all fail
 pub none_of : {X : Type 0} (p : X → Bool) (xs : List X) → list_all (λ x. not (p x)) xs ≡ true → list_any p xs ≡ false
 none_of p [] h = refl
-none_of p (x ∷ xs) h = rw (so_not (p x) (left_of (not (p x)) _ h)) (none_of p xs (right_of (not (p x)) _ h))
+none_of p (x ∷ xs) h = rw (not-true (p x) (left_of (not (p x)) _ h)) (none_of p xs (right_of (not (p x)) _ h))
 
 -- where none passes each fails
 pub all_of : {X : Type 0} (p : X → Bool) (xs : List X) → list_any p xs ≡ false → list_all (λ x. not (p x)) xs ≡ true
@@ -183,14 +168,14 @@ module _ (key : List ℕ) (value : Tree) where
         | inl low ↦
             let here : place_of key (m ∷ ms) ≡ 0 = stops m ms (rw low refl) in
             let found : bytes_eq m.key key ≡ true = rw here at e in
-            let same : m.key ≡ key = same_text m.key key found in
+            let same : m.key ≡ key = bytes_eq-true m.key key found in
             let differs : bytes_eq key m.key ≡ false = is_before-differs key m.key low in
-            let equal : bytes_eq key m.key ≡ true = equal_text key m.key (sym same) in
+            let equal : bytes_eq key m.key ≡ true = bytes_eq-same key m.key (sym same) in
             absurd (cc)
         | inr high ↦ elim (cases_Bool (bytes_eq key m.key)) [
           | inl same ↦
               let here : place_of key (m ∷ ms) ≡ 0 = stops m ms (rw (high, same) refl) in
-              let there : m.key ≡ key = sym (same_text key m.key same) in
+              let there : m.key ≡ key = sym (bytes_eq-true key m.key same) in
               rw (here, put_instead (new_member key value) m ms high same) (ap (λ (k : List ℕ). new_member k value ∷ ms) there)
           | inr other ↦
               let on : place_of key (m ∷ ms) ≡ suc (place_of key ms) = goes m ms (rw (high, other) refl) in
@@ -210,7 +195,7 @@ module _ (key : List ℕ) (value : Tree) where
         | inr high ↦ elim (cases_Bool (bytes_eq key m.key)) [
           | inl same ↦
               let here : place_of key (m ∷ ms) ≡ 0 = stops m ms (rw (high, same) refl) in
-              let there : bytes_eq m.key key ≡ true = equal_text m.key key (sym (same_text key m.key same)) in
+              let there : bytes_eq m.key key ≡ true = bytes_eq-same m.key key (sym (bytes_eq-true key m.key same)) in
               elim h [ inl e ↦ absurd (omega (arith, here, e)) | inr e ↦ let unlike : bytes_eq m.key key ≡ false = rw here at e in absurd (cc) ]
           | inr other ↦
               let on : place_of key (m ∷ ms) ≡ suc (place_of key ms) = goes m ms (rw (high, other) refl) in

@@ -38,6 +38,7 @@ use Rattle.vc_cli.specs.declared.verifying.Verdict.{Verdict}
 use Rattle.vc_cli.specs.declared.verifying.VerifyFault.{VerifyFault}
 use Rattle.vc_cli.specs.declared.verifying.VerifyFault.TheVariants as unverified
 use Rattle.vc_cli.specs.Internal.Stages.{IsCauseOf, ReadsPlain, Verifies}
+use Rattle.std.proofs.lemmas.Bool.{not-true}
 
 -- ---- the first index that is no line's
 
@@ -57,14 +58,10 @@ is_first_over lines indexes count k counted found =
           grind (arith, nat_tests);
     }
 
-untrue : (b : Bool) → not b ≡ true → b ≡ false
-untrue true h = sym h
-untrue false h = refl
-
 no_first : (p : ℕ → Bool) (xs : List ℕ) → position p xs ≡ None → (i : ℕ) → i < length xs → p (get_or xs i 0) ≡ false
 no_first p xs none i below =
     let long : length xs ≤ prefix_len (λ x. not (p x)) xs = grind (arith, none) in
-    untrue (p (get_or xs i 0)) (prefix_len_passes (λ x. not (p x)) xs i 0 (omega (arith, long, below)))
+    not-true (p (get_or xs i 0)) (prefix_len_passes (λ x. not (p x)) xs i 0 (omega (arith, long, below)))
 
 -- where none is found each index is below the count
 pub are_below : (lines : List (List ℕ)) (indexes : List ℕ) (count : ℕ) → count ≡ length lines → position (λ n. nat_le count n) indexes ≡ None → AreBelow lines indexes
