@@ -5,7 +5,6 @@ use Rattle.json.specs.Json as json
 use Rattle.json.specs.Print.{print}
 use Rattle.json.specs.Tree.{json_tokens}
 use Rattle.serde_json.specs.Data.{Data, null, boolean, number, float, string, array, object, Members, no_members, member}
-use Rattle.serde_json.specs.Written.{compact_text}
 use Rattle.serde_json.specs.Find.{of_integer}
 use Rattle.serde_json.specs.View.{items_of}
 use Rattle.json_tree.specs.declared.printing.TheConstants.{VERSION}
@@ -62,8 +61,3 @@ json_of = fold-Tree json.Json json_step
 -- The compact JSON text of a tree: its tokens with no space between them. RFC 8259, section 2.
 abbrev pub compact_of : Tree → List ℕ
 compact_of t = print (json_tokens (json_of t))
-
--- A text as a JSON string, in quotes and with the escapes that `serde_json` writes.
--- RFC 8259, section 7.
-abbrev pub json_string : List ℕ → List ℕ
-json_string text = compact_text (string text)
