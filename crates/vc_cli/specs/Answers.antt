@@ -60,8 +60,8 @@ StatementsAnswers r (reply.Statements text) = IsFlat r × IsTextOf r text
 StatementsAnswers r reply.NotBuilt = IsFlat r → ⊥
 StatementsAnswers r other = ⊥
 
--- What `issue` answers to a request, over a device that meant this before and after. Each case is one
--- outcome, in the order of refusals.
+-- What `issue` answers to a request, over a device that meant this before and after. Each case is
+-- one outcome, in the order of refusals.
 abbrev pub IssueAnswers : DeviceMeaning → DeviceMeaning → Tree → Reply → Type 0
 IssueAnswers before after r reply.NotBuilt = IsFlatIssue r → ⊥
 IssueAnswers before after r reply.NoStatements =
@@ -104,7 +104,8 @@ VerifyAnswers before after r reply.DeviceFault = CountsFault before after
 VerifyAnswers before after r (reply.Yes line) =
     (c : VerifyCase) × (issuer : KeyName) × IsVerifyCase r c
     × IsYes before.accepts c issuer
-    × (line ≡ line_of (verified_tree issuer c.value.indexes (key_name c.value.key) (length c.statements)))
+    × (line ≡ line_of (verified_tree issuer c.value.indexes (key_name c.value.key)
+    (length c.statements)))
 VerifyAnswers before after r other = ⊥
 
 -- The reply to these bytes: why they are no tree, or what a command answers to their tree.
@@ -128,8 +129,8 @@ AnswersRequest answers before after reply.Usage = ⊥
 AnswersRequest answers before after other =
     (bytes : List ℕ) × IsInput before bytes × AnswersRead answers bytes other
 
--- The reply is the answer to these words, for a source and a device that meant this before and after:
--- the usage line exactly where the words are no command.
+-- The reply is the answer to these words, for a source and a device that meant this before and
+-- after: the usage line exactly where the words are no command.
 abbrev pub Answers : List (List ℕ) → SourceMeaning → SourceMeaning
     → DeviceMeaning → DeviceMeaning → Reply → Type 0
 Answers words source source_after device device_after r =
@@ -168,7 +169,8 @@ pub record Keeps (before after : DeviceMeaning) : Type 0 where
   pub exactness : after.exact ≡ before.exact
   pub count : before.faults ≤ after.faults
 
--- A yes to the bytes that were left: the case that verifies with an issuer's key, and what that says.
+-- A yes to the bytes that were left: the case that verifies with an issuer's key, and what that
+-- says.
 pub record HasSoundYes (source : SourceMeaning) (accepts : Acceptance) : Type 0 where
   pub bytes : List ℕ
   pub request : Tree
@@ -180,9 +182,9 @@ pub record HasSoundYes (source : SourceMeaning) (accepts : Acceptance) : Type 0 
   pub is_yes : IsYes accepts verify_case issuer
   pub is_sound : IsSound accepts verify_case issuer
 
--- How a reply is delivered to a sink that meant this before and after. Either it was written whole and
--- the status is its own, or a write failed, which takes the place of every other status, and a prefix
--- was written.
+-- How a reply is delivered to a sink that meant this before and after. Either it was written whole
+-- and the status is its own, or a write failed, which takes the place of every other status, and a
+-- prefix was written.
 abbrev pub Delivers : Reply → Status → SinkMeaning → SinkMeaning → Type 0
 Delivers r result before after =
     ((result ≡ status_of r) × Wrote before after (bytes_of r))

@@ -36,10 +36,11 @@ pub record IsIssueCase (r : Tree) (c : IssueCase) : Type 0 where
 abbrev pub signed_bytes : BaseRecord → List ℕ
 signed_bytes made = sign_data made.options made.key made.mandatory
 
--- What was issued: the document with the given options and a proof value whose statement key is that of
--- the record, whose secret is the one that the device told, and in which every statement is mandatory.
--- The record has the options' lines and the statements' lines; its issuer key is that of the method,
--- which the device owns; the issuer's signature is accepted, and the device's log grew by exactly it.
+-- What was issued: the document with the given options and a proof value whose statement key is
+-- that of the record, whose secret is the one that the device told, and in which every statement is
+-- mandatory. The record has the options' lines and the statements' lines; its issuer key is that of
+-- the method, which the device owns; the issuer's signature is accepted, and the device's log grew
+-- by exactly it.
 pub record IsIssued (before after : DeviceMeaning)
     (c : IssueCase) (document : Tree) (made : BaseRecord) : Type 0 where
   pub some_statements : c.statements ≢ []

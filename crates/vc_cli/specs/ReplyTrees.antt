@@ -1,4 +1,5 @@
--- The replies that are written as one line of JSON, with LF: a tree for each, its members in byte order.
+-- The replies that are written as one line of JSON, with LF: a tree for each, its members in byte
+-- order.
 use Rattle.std.specs.Prelude.{◌+◌, ℕ, pos, List, [], ◌∷◌, ◌++◌, true, false, codes}
 use Rattle.hex.specs.Hex.{encode_lower}
 use Rattle.serde_json.specs.Written.{compact_text}

@@ -80,8 +80,8 @@ issue_body p = statements_request p.contexts p.document
 abbrev pub issue_options : IssueParts → Tree
 issue_options p = statements_request p.contexts (with_context p.name p.options)
 
--- A flat request for issuing: exactly these members, every statement mandatory, a flat document without
--- a proof, and flat options of the right shape.
+-- A flat request for issuing: exactly these members, every statement mandatory, a flat document
+-- without a proof, and flat options of the right shape.
 pub record IsIssue (r : Tree) (p : IssueParts) : Type 0 where
   pub is : r ≡ issue_object p.contexts p.document p.keys whole_document p.options
   pub document : IsFlat (issue_body p)
@@ -128,8 +128,8 @@ verify_body p = statements_request p.contexts (without proof_name p.document)
 abbrev pub verify_options : VerifyParts → Tree
 verify_options p = statements_request p.contexts (with_context p.name (options_of p))
 
--- A flat request for verifying: exactly these members, a document that is flat without its proof, and
--- a proof with a value whose options are flat and of the right shape.
+-- A flat request for verifying: exactly these members, a document that is flat without its proof,
+-- and a proof with a value whose options are flat and of the right shape.
 pub record IsVerify (r : Tree) (p : VerifyParts) : Type 0 where
   pub is : r ≡ verify_object p.contexts p.document p.keys
   pub document : IsFlat (verify_body p)

@@ -1,4 +1,5 @@
--- What verifying answers. Data Integrity ECDSA Cryptosuites 1.0, verify derived proof (ecdsa-sd-2023).
+-- What verifying answers. Data Integrity ECDSA Cryptosuites 1.0, verify derived proof
+-- (ecdsa-sd-2023).
 use Rattle.std.specs.Prelude.{◌≡◌, ◌≢◌, ◌≤◌, ◌<◌, ℕ, false, List, [], map, Ok, Some, length, slice_get}
 use Rattle.json_tree.specs.declared.tree.Tree.{Tree}
 use Rattle.key_device.specs.declared.keys.KeyName.{KeyName}
@@ -105,9 +106,9 @@ pub record IsYes (accepts : Acceptance) (c : VerifyCase) (issuer : KeyName) : Ty
   pub key_is : key_for c.parts.table c.parts.method ≡ Some issuer
   pub good : IsGood accepts (verify_data c issuer)
 
--- A history of records names one issue of what is verified. Exactly one record has the accepted keys, and
--- it holds of the document and its options. Where it is the record of an issue, the options are the issued
--- ones up to blank nodes, and the document reveals a part of the issued one.
+-- A history of records names one issue of what is verified. Exactly one record has the accepted
+-- keys, and it holds of the document and its options. Where it is the record of an issue, the
+-- options are the issued ones up to blank nodes, and the document reveals a part of the issued one.
 pub record NamesOneIssue (history : List BaseRecord) (v : VerifyData) : Type 0 where
   pub names : NamesOne history v
   pub reveals : (issued options : LabelledDataset) (mandatory : List Statement)

@@ -287,7 +287,8 @@ fn label_fields(alloc: Global, number: u64) -> Result<Items<Member>, Memory>
 
 /// The cause that there are not as many signatures as statements to be signed.
 fn count_fields(alloc: Global, signatures: u64, statements: u64) -> Result<Items<Member>, Memory>
-    ensures fields { IfOk result (λ fields. fields ≡ cause_fields (cause.Count signatures statements)) }
+    ensures fields { IfOk result (λ fields.
+        fields ≡ cause_fields (cause.Count signatures statements)) }
     ensures printable { IfOk result (λ fields. IsPrintable (v.Object fields)) }
 {
     let name = text_field(alloc, "name", "Count")?;
@@ -298,7 +299,8 @@ fn count_fields(alloc: Global, signatures: u64, statements: u64) -> Result<Items
 
 /// The cause that the proof expired.
 fn expired_fields(alloc: Global, expires: &Text, moment: &Text) -> Result<Items<Member>, Memory>
-    ensures fields { IfOk result (λ fields. fields ≡ cause_fields (cause.Expired expires.now moment.now)) }
+    ensures fields { IfOk result (λ fields.
+        fields ≡ cause_fields (cause.Expired expires.now moment.now)) }
     ensures printable { IfOk result (λ fields. IsPrintable (v.Object fields)) }
 {
     let expires = text_field(alloc, "expires", expires.as_str())?;
