@@ -31,9 +31,9 @@ const KEYWORDS: [(&str, LdKeyword); 23] = [
 #[test]
 fn keywords_are_those_of_the_standard(rt: HostRuntime) {
     for (text, word) in KEYWORDS {
-        assert!(rt; keyword(text) == Some(word), "{text}");
-        assert!(rt; word.text() == text, "{text}");
-        assert!(rt; is_keyword_form(text), "{text}");
+        assert!(rt; keyword(text) == Some(word));
+        assert!(rt; word.text() == text);
+        assert!(rt; is_keyword_form(text));
     }
     // texts that are no keyword, and whether they have the form of one
     for (text, form) in [
@@ -56,8 +56,8 @@ fn keywords_are_those_of_the_standard(rt: HostRuntime) {
         ("@type ", false),
         ("@é", false),
     ] {
-        assert!(rt; keyword(text) == None, "{text}");
-        assert!(rt; is_keyword_form(text) == form, "{text}");
+        assert!(rt; keyword(text) == None);
+        assert!(rt; is_keyword_form(text) == form);
     }
 }
 
@@ -139,6 +139,6 @@ const CODES: [(Code, &str); 49] = [
 #[test]
 fn codes_are_those_of_the_standard(rt: HostRuntime) {
     for (code, text) in CODES {
-        assert!(rt; code.text() == text, "{text}");
+        assert!(rt; code.text() == text);
     }
 }
