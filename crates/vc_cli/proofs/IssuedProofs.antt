@@ -45,28 +45,6 @@ module _ (key secret signature : List ℕ) where
       let all = count-List (v.Blob signature ∷ v.Blob key ∷ v.Blob secret ∷ v.List [] ∷ v.List (v.Text [] ∷ []) ∷ []) in
       omega arith
 
-  whole_fits : length signature ≡ 64 → length key ≡ 35 → length secret ≡ 32 → fits (base_item (whole_value key secret signature)) ≡ true
-  unfolding base_item
-  whole_fits long key_long secret_long =
-      let a : fits (v.Blob signature) ≡ true = fits-Blob signature (omega (arith, long)) in
-      let b : fits (v.Blob key) ≡ true = fits-Blob key (omega (arith, key_long)) in
-      let c : fits (v.Blob secret) ≡ true = fits-Blob secret (omega (arith, secret_long)) in
-      let d : fits (v.List []) ≡ true = fits-List [] (omega arith) refl in
-      let f : fits (v.Text []) ≡ true = fits_text (v.Text []) [] [] [] refl refl refl (IsUtf8-from_ascii [] (λ i. omega arith)) (omega arith) in
-      let e : fits (v.List (v.Text [] ∷ [])) ≡ true = fits-List (v.Text [] ∷ []) (omega arith) (rw f refl) in
-      fits-List (v.Blob signature ∷ v.Blob key ∷ v.Blob secret ∷ v.List [] ∷ v.List (v.Text [] ∷ []) ∷ []) (omega arith) (rw (a, b, c, d, e) refl)
-
-  pub whole_can : length signature ≡ 64 → length key ≡ 35 → length secret ≡ 32 → CanWriteBase (whole_value key secret signature)
-  whole_can long key_long secret_long =
-      let value = whole_value key secret signature in (
-        record { signature = long; key = key_long; secret = secret_long; signatures = refl },
-        is_spelled (base_item value) (encoding_of (base_item value)) [] refl refl (whole_fits long key_long secret_long) (base_rises value (base_item value) refl) (base_nests value (base_item value) refl),
-      )
-
--- a value that can be written can with another signature
-pub can_sign : (key secret old signature : List ℕ) → CanWriteBase (whole_value key secret old) → length signature ≡ 64 → CanWriteBase (whole_value key secret signature)
-can_sign key secret old signature can long = whole_can key secret signature long can.0.key can.0.secret
-
 -- ---- the record
 
 -- where every statement is mandatory there is no other

@@ -9,8 +9,8 @@ use Rattle.json_tree.specs.declared.tree.Tree.{Tree}
 use Rattle.json_tree.specs.declared.tree.Tree.TheVariants as v
 use Rattle.json_tree.specs.declared.tree.Member.{Member}
 use Rattle.json_tree.specs.Trees.{new_member}
-use Rattle.json_tree.specs.Prints.{data_of, datum, members_data}
-use Rattle.json_tree.proofs.Equations.{data_of-Object, data_of-Text, data_of-Whole}
+use Rattle.json_tree.specs.Prints.{data_of, members_data}
+use Rattle.json_tree.proofs.Equations.{data_of-Object, data_of-Text, data_of-Whole, datum}
 use Rattle.vc_cli.specs.Replies.{depth_limit, input_limit}
 use Rattle.vc_cli.specs.ReplyTrees.{limit_refusal, line_of, name_field, number_field, plain_refusal, refusal_tree}
 

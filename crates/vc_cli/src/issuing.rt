@@ -7,7 +7,7 @@ ghost use Rattle.key_device.specs.Devices.{CountsFault, IsSecretTold, MeansSame}
 ghost use Rattle.key_device.specs.declared.device.DeviceError.TheVariants.{Failed, NoKey};
 ghost use Rattle.nquads.specs.Terms.{Statement};
 ghost use Rattle.nquads.specs.Spelling.{text_quad};
-ghost use Rattle.proof_cbor.specs.Values.{IsDraft, CanWriteBase};
+ghost use Rattle.proof_cbor.specs.Values.{IsDraft};
 ghost use Rattle.stmt_groups.specs.Datasets.{IsLabelled};
 ghost use Rattle.stmt_groups.specs.Records.{IsRecord};
 ghost use Rattle.vc_cli.specs.Requests.{with_proof};
@@ -163,8 +163,6 @@ fn prepare(
     ensures bytes { IfOk result (λ d. d.bytes.items ≡ signed_bytes d.base_record) }
     ensures value { IfOk result (λ d.
         IsDraft (whole_value fresh.now.key.bytes fresh.now.secret no_signature) d.value) }
-    ensures can_write { IfOk result (λ d.
-        CanWriteBase (whole_value fresh.now.key.bytes fresh.now.secret no_signature)) }
 {
     let base_record = record(alloc, &task.quads, &task.option_quads, issuer, fresh.key)?;
     let bytes = lines::signed_bytes(
@@ -215,8 +213,6 @@ fn record(
 fn value(alloc: Global, fresh: &Fresh) -> Result<BaseDraft, Memory>
     ensures value { IfOk result (λ d.
         IsDraft (whole_value fresh.now.key.bytes fresh.now.secret no_signature) d) }
-    ensures can_write { IfOk result (λ d.
-        CanWriteBase (whole_value fresh.now.key.bytes fresh.now.secret no_signature)) }
 {
     let mut pointers = Sequence::new(alloc);
     pointers.push(Text::new(alloc))?;

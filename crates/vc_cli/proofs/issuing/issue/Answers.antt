@@ -2,7 +2,7 @@ use Rattle.std.proofs.Common.{rules, ◌≡◌, [], Some, None, false, ◌∙◌
 use Rattle.key_device.specs.Devices.{log_entry}
 use Rattle.key_device.specs.Tables.{key_for}
 use Rattle.vc_cli.specs.Internal.Stages.{no_signature, whole_value}
-use Rattle.vc_cli.proofs.IssuedProofs.{can_sign, grew_from, has_statements, issued_is, keeps_both, key_asked, no_quads, sign_keeps, statements_are, whole_count}
+use Rattle.vc_cli.proofs.IssuedProofs.{grew_from, has_statements, issued_is, keeps_both, key_asked, no_quads, sign_keeps, statements_are}
 use Rattle.vc_cli.proofs.FlatTexts.{flat_labelled}
 use Rattle.vc_cli.proofs.issuing.issue.Goals as goal
 
@@ -42,9 +42,7 @@ returns-in-Ok-sign-clause-outcome g c = λ r w.
           r c.args.task w c.finish-in-Ok-sign.result c.in_ok-draft.draft.base_record c.in-Some.issuer key secret signature c.finish.result c.deref.result.now
           some
           (c.finish-in-Ok-sign.ensures ∙ made.proof c.finish.result)
-          (c.finish.ensures.spelled (whole_value key.bytes secret no_signature) made.value
-          (can_sign key.bytes secret no_signature signature.bytes made.can_write c.finish.ensures.long)
-          (whole_count key.bytes secret signature.bytes))
+          (c.finish.ensures.spelled (whole_value key.bytes secret no_signature) made.value)
           c.in-Ok.ensures.secret
           found
           made.issuer
