@@ -25,23 +25,25 @@ def without_comments(text):
     return re.sub(r"--.*", "", text)
 
 
-def at_the_left_edge(lines):
-    """The lines, with what a `mutual` block indents at the left edge too."""
-    made, inside = [], False
-    for line in lines:
-        if re.match(r"(?:abbrev\s+)?mutual\b", line):
-            inside, line = True, ""
-        elif inside and line.startswith("  "):
-            line = line[2:]
-        elif line:
-            inside = False
-        made.append(line)
-    return made
+def unfolded(lines):
+    """The lines with those of a `mutual` block moved to the left edge, under its modifiers."""
+    modifiers = None
+    for number, line in enumerate(lines):
+        block = re.match(r"^(" + MODIFIERS + r")mutual$", line)
+        if block:
+            modifiers = block.group(1)
+            yield "--" if number and lines[number - 1].startswith("--") else ""
+        elif modifiers is not None and line.startswith("  "):
+            starts = re.match(r"  (?:pub )?[^\s:(){}]+ :\s", line)
+            yield (modifiers if starts else "") + line[2:]
+        else:
+            modifiers = None if line else modifiers
+            yield line
 
 
 def definitions(text):
     """The definitions of an .antt file, in order, each with its lines."""
-    lines, found = at_the_left_edge(text.split("\n")), []
+    lines, found = list(unfolded(text.split("\n"))), []
     for number, line in enumerate(lines):
         if line.startswith("--"):
             continue
