@@ -1,7 +1,5 @@
 //! Documents and the trees that RFC 8259 gives them, by hand. Trees are compared as `Debug` shows them.
-use crate::{
-    Place, Sequence, Step, Text, TreeFault, look, member, pointer_text, print, read, text_member,
-};
+use crate::{TreeFault, member, pointer_text, print, read, text_member};
 use std::alloc::Global;
 use std::test::Fail;
 
@@ -160,66 +158,6 @@ fn trees_print_as_compact_text(rt: HostRuntime) -> Result<(), Fail> {
     for (text, expected) in PRINTED {
         let printed = print(rt.alloc(), &read(rt.alloc(), text.as_bytes())?)?;
         assert_eq!(rt; printed.as_slice(), expected.as_bytes(), "at {text}");
-    }
-    Ok(())
-}
-
-/// The steps of a pointer's tokens: each `Key`, or `At` where it is a number.
-fn steps(alloc: Global, tokens: &[(&str, Option<u64>)]) -> Result<Vec<Step>, Fail> {
-    let mut steps = Vec::new(alloc);
-    for (name, at) in tokens {
-        match at {
-            Some(at) => steps.push(Step::At(*at))?,
-            None => steps.push(Step::Key(Text::from_str(alloc, name)?))?,
-        }
-    }
-    Ok(steps)
-}
-
-/// RFC 6901, section 5: a document, and what its pointers lead to.
-const EXAMPLE: &str =
-    "{\"foo\":[\"bar\",\"baz\"],\"\":0,\"a/b\":1,\"c%d\":2,\"e^f\":3,\"g|h\":4,\"i\\\\j\":5,\"k\\\"l\":6,\" \":7,\"m~n\":8}";
-
-const POINTERS: [(&str, &[(&str, Option<u64>)], &str); 16] = [
-    ("/foo", &[("foo", None)], "[\"bar\",\"baz\"]"),
-    ("/foo/0", &[("foo", None), ("", Some(0))], "\"bar\""),
-    ("/", &[("", None)], "0"),
-    ("/a~1b", &[("a/b", None)], "1"),
-    ("/c%d", &[("c%d", None)], "2"),
-    ("/e^f", &[("e^f", None)], "3"),
-    ("/g|h", &[("g|h", None)], "4"),
-    ("/i\\j", &[("i\\j", None)], "5"),
-    ("/k\"l", &[("k\"l", None)], "6"),
-    ("/ ", &[(" ", None)], "7"),
-    ("/m~0n", &[("m~n", None)], "8"),
-    // The last element, one past it, a name in a list, an index in an object, and a name that is not there.
-    ("/foo/1", &[("foo", None), ("", Some(1))], "\"baz\""),
-    ("/foo/2", &[("foo", None), ("", Some(2))], "nothing"),
-    ("/foo/0", &[("foo", None), ("0", None)], "nothing"),
-    ("/0", &[("", Some(0))], "nothing"),
-    ("/~01", &[("~1", None)], "nothing"),
-];
-
-#[test]
-fn pointers_lead_to_their_values(rt: HostRuntime) -> Result<(), Fail> {
-    let tree = read(rt.alloc(), EXAMPLE.as_bytes())?;
-    let whole = print(rt.alloc(), &tree)?;
-    for (pointer, tokens, expected) in POINTERS {
-        let steps = steps(rt.alloc(), tokens)?;
-        let shown = match look(&tree, steps.as_slice()) {
-            Some(value) => String::from_utf8(print(rt.alloc(), value)?)?,
-            None => String::from_str(rt.alloc(), "nothing")?,
-        };
-        assert_eq!(rt; shown.as_str(), expected, "at {pointer}");
-        let place = Place {
-            steps: Sequence::from_vec(steps),
-        };
-        assert_eq!(rt; pointer_text(rt.alloc(), &place)?.as_str(), pointer);
-    }
-    let here = look(&tree, &[]).map(|value| print(rt.alloc(), value));
-    match here {
-        Some(text) => assert_eq!(rt; text?.as_slice(), whole.as_slice()),
-        None => assert!(rt; false),
     }
     Ok(())
 }
