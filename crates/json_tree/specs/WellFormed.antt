@@ -1,5 +1,5 @@
--- The one condition on trees: it holds of what is read, it is asked of what is printed, and it is
--- kept by look-up and by a member put in or taken out.
+-- The one condition on trees: it holds of what is read, it is asked of what is printed, and look-up
+-- keeps it.
 use Rattle.std.specs.Prelude.{◌≡◌, List, true, None}
 use Rattle.json_tree.specs.declared.tree.Tree.{Tree}
 use Rattle.json_tree.specs.declared.tree.Tree.TheVariants as v
