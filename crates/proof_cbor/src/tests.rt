@@ -343,10 +343,14 @@ const RISING: &str =
 
 /// Whether the bytes count on from the first.
 fn count_on(bytes: &[u8], first: u8) -> bool {
-    bytes
-        .iter()
-        .enumerate()
-        .all(|(i, byte)| *byte == first.wrapping_add(i as u8))
+    let mut want = first;
+    for byte in bytes {
+        if *byte != want {
+            return false;
+        }
+        want = want.wrapping_add(1);
+    }
+    true
 }
 
 /// Whether all bytes are the first, but the last one, which is one more.
