@@ -392,7 +392,7 @@ fn answer(
     canonicalise(alloc, &TextQuads::from_vec(quads), &limits)
 }
 
-fn has_lines(canon: &Canon, wanted: &[&str]) -> bool {
+fn has_lines(canon: &Canon, wanted: &[&'static str]) -> bool {
     for (line, want) in canon.lines.as_slice().iter().zip(wanted) {
         if line.as_str() != *want {
             return false;
