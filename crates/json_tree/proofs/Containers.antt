@@ -17,9 +17,10 @@ use Rattle.json_tree.specs.declared.tree.Item.{Item}
 use Rattle.json_tree.specs.declared.tree.Member.{Member}
 use Rattle.json_tree.specs.Trees.{elements_of, entries_of, each_next, is_before, is_lawful, is_in_range}
 use Rattle.json_tree.specs.Internal.Reading.{IsTreeOf, AreElementsOf, AreEntriesOf}
-use Rattle.json_tree.proofs.Rising.{both_hold, NamesRise}
+use Rattle.json_tree.proofs.Rising.{NamesRise}
 use Rattle.json_tree.proofs.TreeLemmas.{is_lawful-List, is_lawful-Object}
 use Rattle.json_tree.proofs.Equations.{is_in_range-List, is_in_range-Object}
+use Rattle.std.proofs.lemmas.Bool.{and_from}
 
 -- the indexes of what is read rise
 pub elements_rise : (n : ℕ) (ds : Items) → each_next (λ i j. nat_lt i.at j.at) (elements_of n ds) ≡ true
@@ -27,20 +28,20 @@ elements_rise n no_items = refl
 elements_rise n (item d no_items) = refl
 elements_rise n (item d (item e ds)) =
     let next : nat_lt n (n + 1) ≡ true = grind (arith, nat_tests) in
-    both_hold (nat_lt n (n + 1)) _ next (elements_rise (n + 1) (item e ds))
+    and_from (nat_lt n (n + 1)) _ next (elements_rise (n + 1) (item e ds))
 
 -- the names of a map's members rise
 pub entries_rise : (es : List (String Global × Value)) → IsStrictlySortedBy string_cmp (keys_of es) → NamesRise (entries_of (members_view es))
 unfolding IsStrictlySortedBy
 entries_rise [] s = refl
 entries_rise (a ∷ []) s = refl
-entries_rise (a ∷ (b ∷ es)) s = both_hold (is_before (string_bytes a.0) (string_bytes b.0)) _ (ap is_lt s.0.0) (entries_rise (b ∷ es) s.1)
+entries_rise (a ∷ (b ∷ es)) s = and_from (is_before (string_bytes a.0) (string_bytes b.0)) _ (ap is_lt s.0.0) (entries_rise (b ∷ es) s.1)
 
 -- elements made of an array's values make a list, which is the array's tree
 pub list_made : (ds : Items) (es : List (Item Tree)) → AreElementsOf ds es → IsTreeOf (array ds) (v.List es)
 list_made ds es made = record {
   is = ap v.List made.is;
-  lawful = is_lawful-List es ∙ both_hold _ _ (ap (each_next (λ i j. nat_lt i.at j.at)) made.is ∙ elements_rise 0 ds) made.lawful;
+  lawful = is_lawful-List es ∙ and_from _ _ (ap (each_next (λ i j. nat_lt i.at j.at)) made.is ∙ elements_rise 0 ds) made.lawful;
   in_range = is_in_range-List es ∙ made.in_range;
 }
 
@@ -48,7 +49,7 @@ list_made ds es made = record {
 pub object_made : (ms : Members) (members : List (Member Tree)) → AreEntriesOf ms members → IsTreeOf (object ms) (v.Object members)
 object_made ms members made = record {
   is = ap v.Object made.is;
-  lawful = is_lawful-Object members ∙ both_hold _ _ made.rising made.lawful;
+  lawful = is_lawful-Object members ∙ and_from _ _ made.rising made.lawful;
   in_range = is_in_range-Object members ∙ made.in_range;
 }
 

@@ -26,10 +26,6 @@ pub right_of : (a b : Bool) → (a && b) ≡ true → b ≡ true
 right_of true b h = h
 right_of false b h = absurd (cc)
 
--- where each of two holds, both do
-pub both_hold : (a b : Bool) → a ≡ true → b ≡ true → (a && b) ≡ true
-both_hold a b p q = rw (p, q)
-
 -- ---- the order of names
 
 -- the members' names rise

@@ -26,6 +26,7 @@ use Rattle.json_tree.proofs.Induction.{Each, by_cases}
 use Rattle.json_tree.proofs.Compact.{read_back}
 use Rattle.json_tree.proofs.Depths.{levels_of-tree_of}
 use Rattle.json_tree.proofs.Equations.{holds_version-Null, holds_version-Bool, holds_version-Whole, holds_version-Version, holds_version-Text, holds_version-List, holds_version-Object, data_of-Null, data_of-Bool, data_of-Whole, data_of-Version, data_of-Text, data_of-List, data_of-Object, renumbered-Null, renumbered-Bool, renumbered-Whole, renumbered-Version, renumbered-Text, renumbered-List, renumbered-Object, levels_of-Null, levels_of-Bool, levels_of-Whole, levels_of-Version, levels_of-Text, levels_of-List, levels_of-Object, misplaced-List, misplaced-Object, datum}
+use Rattle.json_tree.proofs.Kept.{none_first, none_later}
 
 -- ---- the value of a tree is that of the tree renumbered
 
@@ -88,14 +89,6 @@ depth-data_of = by_cases HasDepth record {
 
 abbrev StaysPlaced : Tree → Type 0
 StaysPlaced t = (named : Bool) → misplaced t named ≡ None → misplaced (renumbered t) named ≡ None
-
-none_first : (o later : Option (List Step)) (s : Step) → or_else (below s o) later ≡ None → o ≡ None
-none_first (Some p) later s h = absurd (cc)
-none_first None later s h = refl
-
-none_later : (o later : Option (List Step)) (s : Step) → or_else (below s o) later ≡ None → later ≡ None
-none_later (Some p) later s h = absurd (cc)
-none_later None later s h = h
 
 items_stay : (n : ℕ) (is : List (Item Tree)) → Each (λ (i : Item Tree). StaysPlaced i.value) is → first_in_items is ≡ None → first_in_items (numbered n (map (λ i. element i.at (renumbered i.value)) is)) ≡ None
 items_stay n [] e h = refl

@@ -1,5 +1,5 @@
 -- One equation for each variant of a tree, for each definition by cases on it.
-use Rattle.std.proofs.Common.{◌≡◌, ℕ, ℤ, Bool, true, ◌&&◌, ◌==◌, nat_lt, List, [], map, Some, None, option_map, option_and_then, find, refl, sym, ap, ◌∙◌}
+use Rattle.std.proofs.Common.{◌≡◌, ℕ, ℤ, Bool, true, ◌&&◌, ◌==◌, nat_lt, List, [], map, Option, Some, None, option_map, option_and_then, find, refl, sym, ap, ◌∙◌}
 use Rattle.std.specs.List.{list_all}
 use Rattle.std.proofs.lemmas.List.Folds.{list_all-map}
 use Rattle.json_tree.specs.declared.tree.Tree.{Tree, fold-roll-Tree, out-Tree, roll-Tree, roll-out-Tree}
@@ -10,7 +10,7 @@ use Rattle.json_tree.specs.declared.tree.Member.{Member}
 use Rattle.json_tree.specs.declared.place.Step.{Step}
 use Rattle.json_tree.specs.declared.place.Step.TheVariants.{Key, At}
 use Rattle.json_tree.specs.Trees.{each_next, is_before, lawful_step, is_lawful, AreLawful}
-use Rattle.json_tree.specs.Places.{value_of, child_in, child_of, text_in, text_of, items_in, items_of, members_in, members_of, names_in, names_at}
+use Rattle.json_tree.specs.Places.{value_of, child_in, child_of, look, text_in, text_of, items_in, items_of, members_in, members_of, names_in, names_at}
 use Rattle.json_tree.proofs.Rising.{left_of, right_of}
 use Rattle.base_types.proofs.Searching.{each_next-map}
 
@@ -219,3 +219,8 @@ names_of_members (Tree-F.Object ms) = refl
 -- a tree's names are those of its members, where it has members
 pub names_at-members : (t : Tree) → names_at [] t ≡ option_map (λ members. map (λ m. m.key) members) (members_of t)
 names_at-members t = names_of_members (out-Tree t)
+
+-- no further step leads where one stands
+pub look_nothing : (o : Option Tree) → option_and_then (look []) o ≡ o
+look_nothing None = refl
+look_nothing (Some t) = refl

@@ -16,9 +16,10 @@ use Rattle.nquads.proofs.ReadingTerms.{spelled_one_reading}
 use Rattle.ld_rdf.specs.Plain.{is_iri_character, IsPlainIri}
 use Rattle.ld_rdf.specs.Flat.{property_statement, IsFlat, IsFlatMeaning, Means}
 use Rattle.ld_rdf.proofs.WholeRequests.{flat_statements}
-use Rattle.ld_rdf.proofs.OptionsAndLists.{and_right, picked}
+use Rattle.ld_rdf.proofs.OptionsAndLists.{picked}
 use Rattle.ld_rdf.proofs.Shapes.{Shape, shape_from_statements, parts}
 use Rattle.ld_rdf.proofs.Meaning.{Description, description, is_flat, means_from, means_to, means_plain}
+use Rattle.json_tree.proofs.Rising.{right_of}
 
 -- ---- plain IRIs are IRIs
 
@@ -29,7 +30,7 @@ plain_character c h = grind (arith, nat_tests)
 -- a plain IRI has the characters of an IRI
 pub plain_iri_is_iri : (text : List ℕ) → IsPlainIri text → HasIriCharacters text
 plain_iri_is_iri text h =
-    All-weaker (λ c. is_iri_character c ≡ true) (λ c. is_forbidden c ≡ false) plain_character text (AllPass-from_list_all is_iri_character text (and_right (starts_with ◌==◌ text (codes "https://")) _ h))
+    All-weaker (λ c. is_iri_character c ≡ true) (λ c. is_forbidden c ≡ false) plain_character text (AllPass-from_list_all is_iri_character text (right_of (starts_with ◌==◌ text (codes "https://")) _ h))
 
 xsd_string_is_iri : HasIriCharacters xsd_string
 xsd_string_is_iri = All-weaker (λ c. not (is_forbidden c) ≡ true) (λ c. is_forbidden c ≡ false) (λ c h. not-true (is_forbidden c) h) xsd_string (AllPass-from_list_all (λ c. not (is_forbidden c)) xsd_string refl)

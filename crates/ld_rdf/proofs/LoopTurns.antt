@@ -11,22 +11,18 @@ use Rattle.ld_rdf.specs.Flat.{property_statement}
 use Rattle.ld_rdf.specs.Internal.Parts.{property_of, is_left_out, statements_beside}
 use Rattle.ld_rdf.specs.Internal.Outcomes.{Builds, BuildsItems}
 use Rattle.ld_rdf.proofs.OptionsAndLists.{option_map-Some, option_map-None}
+use Rattle.base_types.proofs.Lists.{drop-next}
 
 -- what is left, after what was made
 abbrev pub left : List TextQuad → Option (List Statement) → Option (List TextQuad)
 left done o = option_map (λ more. done ++ map text_quad more) o
 
-next : (ms : List (Member Tree)) (at : ℕ) (m : Member Tree) → at < length ms → m ≡ get_or ms at m → drop at ms ≡ m ∷ drop (at + 1) ms
-next ms at m within is =
-    let split : drop at ms ≡ get_or ms at m ∷ drop (at + 1) ms = rw (add-one, drop-cons ms at m) in
-    split ∙ ap (λ (x : Member Tree). x ∷ drop (at + 1) ms) (sym is)
-
 -- the statements from a member on
 from_entry : (besides : List ℕ) (terms : List (Member Tree)) (id : List ℕ) (ms : List (Member Tree)) (at : ℕ) (m : Member Tree) → at < length ms → m ≡ get_or ms at m → is_left_out besides m.key ≡ true → statements_beside besides terms id (drop at ms) ≡ statements_beside besides terms id (drop (at + 1) ms)
-from_entry besides terms id ms at m within is h = ap (statements_beside besides terms id) (next ms at m within is) ∙ rw h
+from_entry besides terms id ms at m within is h = ap (statements_beside besides terms id) (drop-next ms at m within is) ∙ rw h
 
 from_property : (besides : List ℕ) (terms : List (Member Tree)) (id : List ℕ) (ms : List (Member Tree)) (at : ℕ) (m : Member Tree) → at < length ms → m ≡ get_or ms at m → is_left_out besides m.key ≡ false → statements_beside besides terms id (drop at ms) ≡ option_and_then (λ p. option_map (λ more. property_statement id p.0 p.1 ∷ more) (statements_beside besides terms id (drop (at + 1) ms))) (property_of terms m)
-from_property besides terms id ms at m within is h = ap (statements_beside besides terms id) (next ms at m within is) ∙ rw h
+from_property besides terms id ms at m within is h = ap (statements_beside besides terms id) (drop-next ms at m within is) ∙ rw h
 
 -- a turn of the loop at a member that gives no statement
 pub turn_entry : (besides : List ℕ) (whole : Option (List TextQuad)) (done : List TextQuad) (terms : List (Member Tree)) (id : List ℕ) (ms : List (Member Tree)) (at : ℕ) (m : Member Tree) → whole ≡ left done (statements_beside besides terms id (drop at ms)) → at < length ms → m ≡ get_or ms at m → is_left_out besides m.key ≡ true → whole ≡ left done (statements_beside besides terms id (drop (at + 1) ms))

@@ -5,7 +5,6 @@ use Rattle.json_tree.specs.declared.tree.Tree.TheVariants as v
 use Rattle.json_tree.specs.declared.tree.Member.{Member}
 use Rattle.json_tree.specs.Trees.{new_member, is_lawful}
 use Rattle.json_tree.specs.Places.{members_of}
-use Rattle.json_tree.proofs.Rising.{both_hold}
 use Rattle.json_tree.proofs.TreeLemmas.{is_lawful-Text, members_of-Object}
 use Rattle.nquads.specs.Terms.{Statement}
 use Rattle.ld_rdf.specs.Flat.{at_context, at_id}
@@ -13,6 +12,7 @@ use Rattle.ld_rdf.specs.Reduced.{without_key, without, put_member, statements_re
 use Rattle.ld_rdf.specs.Internal.Parts.{only_if, member_text, two_in, SuppliedContext, supplied_context, agrees, text_beside, statements_beside, statements_under, chosen_statements, reduced_statements, request_statements}
 use Rattle.ld_rdf.proofs.WholeRequests.{document_statements, flat_statements}
 use Rattle.ld_rdf.proofs.Reductions.{without_lawful, put_lawful, members_of-changed, lawful_object, is_lawful-changed, text_at-without, text_at-put, id_under_put, statements_in-without, statements_in-put, statements_beside_context}
+use Rattle.std.proofs.lemmas.Bool.{and_from}
 
 -- ---- lawful
 
@@ -27,7 +27,7 @@ taking_is_lawful name t lawful =
 
 -- the request that is made of two lawful trees is lawful
 pub request_is_lawful : (contexts t : Tree) → is_lawful contexts ≡ true → is_lawful t ≡ true → is_lawful (statements_request contexts t) ≡ true
-request_is_lawful contexts t one two = lawful_object _ (record { rising = refl; values = both_hold (is_lawful contexts) _ one (both_hold (is_lawful t) true two refl) })
+request_is_lawful contexts t one two = lawful_object _ (record { rising = refl; values = and_from (is_lawful contexts) _ one (and_from (is_lawful t) true two refl) })
 
 -- ---- options
 

@@ -10,14 +10,14 @@ use Rattle.json_tree.specs.declared.tree.Tree.TheVariants as v
 use Rattle.json_tree.specs.declared.tree.Member.{Member}
 use Rattle.json_tree.specs.Trees.{is_lawful, AreLawful}
 use Rattle.json_tree.specs.Places.{look, text_of, value_of}
-use Rattle.json_tree.proofs.Rising.{value_of-at, value_of-Some, Stands}
+use Rattle.json_tree.proofs.Rising.{value_of-at, value_of-Some, Stands, left_of, right_of}
 use Rattle.json_tree.proofs.TreeLemmas.{text_of-Some, text_of-Text}
 use Rattle.nquads.specs.Terms.{Statement}
 use Rattle.ld_rdf.specs.Plain.{is_plain_iri, is_plain_term, has_noncharacter}
 use Rattle.ld_rdf.specs.Flat.{at_context, at_id, term_place, document_place, HasText, DefinesTerm, IsFlat, Means, property_statement}
 use Rattle.ld_rdf.specs.Internal.Parts.{only_if, member_text, is_definition, property_of, is_id_or_context, agrees}
 use Rattle.ld_rdf.proofs.WholeRequests.{statements_in, document_statements}
-use Rattle.ld_rdf.proofs.OptionsAndLists.{and_then-Some, option_map-Some, provided-Some, map_or-true, and_left, and_right, list_all-contains}
+use Rattle.ld_rdf.proofs.OptionsAndLists.{and_then-Some, option_map-Some, provided-Some, map_or-true, list_all-contains}
 use Rattle.ld_rdf.proofs.Shapes.{Shape, at_term, at_member, names-request, names-contexts, names-supplied, names-terms, names-document, terms_lawful, document_lawful}
 use Rattle.base_types.proofs.Orders.{bytes_eq-true, bytes_eq-same}
 
@@ -158,13 +158,13 @@ description name terms members ss h =
     let found = and_then-Some (λ id. option_and_then (λ chosen. only_if (agrees name chosen id terms) (statements_in terms id members)) (member_text at_context members)) (member_text at_id members) ss h in
     let chosen = and_then-Some (λ chosen. only_if (agrees name chosen found.0 terms) (statements_in terms found.0 members)) (member_text at_context members) ss found.2 in
     let given = provided-Some (agrees name chosen.0 found.0 terms) (statements_in terms found.0 members) ss chosen.2 in
-    let first = and_left (is_plain_iri found.0 && bytes_eq name chosen.0) (list_all is_definition terms) given.0 in
+    let first = left_of (is_plain_iri found.0 && bytes_eq name chosen.0) (list_all is_definition terms) given.0 in
     record {
       id = found.0;
       identified = found.1;
-      plain = and_left (is_plain_iri found.0) _ first;
-      chosen = chosen.1 ∙ ap Some (sym (bytes_eq-true name chosen.0 (and_right (is_plain_iri found.0) _ first)));
-      definitions = and_right (is_plain_iri found.0 && bytes_eq name chosen.0) (list_all is_definition terms) given.0;
+      plain = left_of (is_plain_iri found.0) _ first;
+      chosen = chosen.1 ∙ ap Some (sym (bytes_eq-true name chosen.0 (right_of (is_plain_iri found.0) _ first)));
+      definitions = right_of (is_plain_iri found.0 && bytes_eq name chosen.0) (list_all is_definition terms) given.0;
       statements = given.1;
     }
 
@@ -174,11 +174,11 @@ module _ (r : Tree) (lawful : is_lawful r ≡ true) (s : Shape r) (ss : List Sta
       let found = Contains-from_map (λ (m : Member Tree). m.key) s.terms term c in
       let m = found.0 in
       let definition : is_definition m ≡ true = list_all-contains is_definition s.terms m d.definitions found.1 in
-      let mapping = map_or-true is_plain_iri (text_of m.value) (and_right (is_plain_term m.key) _ definition) in
+      let mapping = map_or-true is_plain_iri (text_of m.value) (right_of (is_plain_term m.key) _ definition) in
       let stands : value_of term s.terms ≡ Some m.value = subst (λ (k : List ℕ). value_of k s.terms ≡ Some m.value) found.2 (value_at_member s.terms m (terms_lawful r s lawful) found.1) in
       record {
         mapping = mapping.0;
-        plain = subst (λ (k : List ℕ). is_plain_term k ≡ true) found.2 (and_left (is_plain_term m.key) _ definition);
+        plain = subst (λ (k : List ℕ). is_plain_term k ≡ true) found.2 (left_of (is_plain_term m.key) _ definition);
         is = at_term r s term ∙ stands ∙ ap Some (text_of-Some m.value mapping.0 mapping.1);
         plain_iri = mapping.2;
       }

@@ -9,6 +9,7 @@ use Rattle.std.proofs.lemmas.Slice.Eq.{bytes_eq-Decides}
 use Rattle.base_types.specs.Sets.{AllDiffer}
 use Rattle.base_types.proofs.Lists.{Contains-here, Contains-there, Contains-cons_cases, Contains-nil, Contains-from_map}
 use Rattle.ld_rdf.specs.Internal.Parts.{only_if}
+use Rattle.json_tree.proofs.Rising.{left_of, right_of}
 
 -- ---- options
 
@@ -39,24 +40,14 @@ map_or-true p (Some x) h = (x, refl, h)
 
 -- ---- tests
 
--- both hold, so the first does
-pub and_left : (a b : Bool) → (a && b) ≡ true → a ≡ true
-and_left true b h = refl
-and_left false b h = absurd (cc)
-
--- both hold, so the second does
-pub and_right : (a b : Bool) → (a && b) ≡ true → b ≡ true
-and_right true b h = h
-and_right false b h = absurd (cc)
-
 -- ---- lists
 
 -- a test that holds of each element holds of this one
 pub list_all-contains : {X : Type 0} (p : X → Bool) (xs : List X) (x : X) → list_all p xs ≡ true → Contains xs x → p x ≡ true
 list_all-contains p [] x h c = absurd (Contains-nil x c)
 list_all-contains p (y ∷ ys) x h c = elim (Contains-cons_cases y ys x c) [
-  | inl e ↦ ap p (sym e) ∙ and_left (p y) _ h
-  | inr d ↦ list_all-contains p ys x (and_right (p y) _ h) d
+  | inl e ↦ ap p (sym e) ∙ left_of (p y) _ h
+  | inr d ↦ list_all-contains p ys x (right_of (p y) _ h) d
 ]
 
 -- a test holds of each element where it holds of whatever stands in the list

@@ -4,7 +4,7 @@ use Rattle.std.specs.List.{list_all}
 use Rattle.std.specs.Str.{bytes_eq}
 use Rattle.std.specs.Ordering.{nat_cmp, is_lt, is_eq, ordering_reverse}
 use Rattle.std.specs.Cmp.Lexicographic.{slice_cmp}
-use Rattle.std.proofs.lemmas.Bool.{cases_Bool, true≢false}
+use Rattle.std.proofs.lemmas.Bool.{cases_Bool, true≢false, and_from}
 use Rattle.std.proofs.lemmas.Cmp.{nat_list_cmp_total}
 use Rattle.std.proofs.lemmas.Map.Text.{is_eq-slice_cmp}
 use Rattle.json_tree.specs.declared.tree.Tree.{Tree, out-Tree}
@@ -13,14 +13,13 @@ use Rattle.json_tree.specs.declared.tree.Tree.TheVariants as v
 use Rattle.json_tree.specs.declared.tree.Member.{Member}
 use Rattle.json_tree.specs.Trees.{new_member, is_before, is_lawful, AreLawful}
 use Rattle.json_tree.specs.Places.{text_of, members_in, members_of, value_of}
-use Rattle.json_tree.proofs.Rising.{NamesRise, both_hold}
+use Rattle.json_tree.proofs.Rising.{NamesRise, left_of, right_of}
 use Rattle.json_tree.proofs.TreeLemmas.{is_lawful-Object, lawful_members, members_of-Object, members_of-Some, text_of-Text}
 use Rattle.nquads.specs.Terms.{Statement}
 use Rattle.ld_rdf.specs.Flat.{at_context, at_id, property_statement}
 use Rattle.ld_rdf.specs.Reduced.{with_members_in, with_members, without_key, put_member}
 use Rattle.ld_rdf.specs.Internal.Parts.{member_text, property_of, is_id_or_context, is_left_out, text_beside, statements_beside}
 use Rattle.ld_rdf.proofs.WholeRequests.{statements_in}
-use Rattle.ld_rdf.proofs.OptionsAndLists.{and_left, and_right}
 use Rattle.base_types.proofs.Orders.{bytes_eq-true, bytes_eq-same, is_before-other_way, bytes_eq-false, bytes_eq-differ, is_before-transitive}
 use Rattle.base_types.proofs.Searching.{each_next-tail}
 
@@ -32,17 +31,17 @@ after key ms = list_all (λ n. is_before key n.key) ms
 after-earlier : (a b : List ℕ) (ms : List (Member Tree)) → is_before a b ≡ true → after b ms ≡ true → after a ms ≡ true
 after-earlier a b [] h all = refl
 after-earlier a b (n ∷ ns) h all =
-    both_hold (is_before a n.key) (after a ns) (is_before-transitive a b n.key h (and_left (is_before b n.key) _ all)) (after-earlier a b ns h (and_right (is_before b n.key) _ all))
+    and_from (is_before a n.key) (after a ns) (is_before-transitive a b n.key h (left_of (is_before b n.key) _ all)) (after-earlier a b ns h (right_of (is_before b n.key) _ all))
 
 after-first : (m : Member Tree) (ms : List (Member Tree)) → NamesRise (m ∷ ms) → after m.key ms ≡ true
 after-first m [] rise = refl
 after-first m (n ∷ ns) rise =
-    let first = and_left (is_before m.key n.key) _ rise in
-    both_hold (is_before m.key n.key) (after m.key ns) first (after-earlier m.key n.key ns first (after-first n ns (and_right (is_before m.key n.key) _ rise)))
+    let first = left_of (is_before m.key n.key) _ rise in
+    and_from (is_before m.key n.key) (after m.key ns) first (after-earlier m.key n.key ns first (after-first n ns (right_of (is_before m.key n.key) _ rise)))
 
 rise-cons : (m : Member Tree) (ms : List (Member Tree)) → after m.key ms ≡ true → NamesRise ms → NamesRise (m ∷ ms)
 rise-cons m [] all rise = refl
-rise-cons m (n ∷ ns) all rise = both_hold (is_before m.key n.key) _ (and_left (is_before m.key n.key) _ all) rise
+rise-cons m (n ∷ ns) all rise = and_from (is_before m.key n.key) _ (left_of (is_before m.key n.key) _ all) rise
 
 -- ---- members kept
 
@@ -55,9 +54,9 @@ kept-no q m ms h = rw h
 all-kept : (p q : Member Tree → Bool) (ms : List (Member Tree)) → list_all p ms ≡ true → list_all p (filter q ms) ≡ true
 all-kept p q [] all = refl
 all-kept p q (m ∷ ms) all =
-    let later = all-kept p q ms (and_right (p m) _ all) in
+    let later = all-kept p q ms (right_of (p m) _ all) in
     elim (cases_Bool (q m)) [
-      | inl h ↦ ap (list_all p) (kept-yes q m ms h) ∙ both_hold (p m) (list_all p (filter q ms)) (and_left (p m) _ all) later
+      | inl h ↦ ap (list_all p) (kept-yes q m ms h) ∙ and_from (p m) (list_all p (filter q ms)) (left_of (p m) _ all) later
       | inr h ↦ ap (list_all p) (kept-no q m ms h) ∙ later
     ]
 
@@ -99,19 +98,19 @@ by_place P m n ns first same later = elim (cases_Bool (is_before m.key n.key)) [
 ]
 
 all-put : (p : Member Tree → Bool) (m : Member Tree) (ms : List (Member Tree)) → p m ≡ true → list_all p ms ≡ true → list_all p (put_member m ms) ≡ true
-all-put p m [] here all = both_hold (p m) true here refl
+all-put p m [] here all = and_from (p m) true here refl
 all-put p m (n ∷ ns) here all =
     by_place (λ ks. list_all p ks ≡ true) m n ns
-    (λ h. both_hold (p m) (list_all p (n ∷ ns)) here all)
-    (λ e. both_hold (p m) (list_all p ns) here (and_right (p n) _ all))
-    (λ h e. both_hold (p n) (list_all p (put_member m ns)) (and_left (p n) _ all) (all-put p m ns here (and_right (p n) _ all)))
+    (λ h. and_from (p m) (list_all p (n ∷ ns)) here all)
+    (λ e. and_from (p m) (list_all p ns) here (right_of (p n) _ all))
+    (λ h e. and_from (p n) (list_all p (put_member m ns)) (left_of (p n) _ all) (all-put p m ns here (right_of (p n) _ all)))
 
 rise-put : (m : Member Tree) (ms : List (Member Tree)) → NamesRise ms → NamesRise (put_member m ms)
 rise-put m [] rise = refl
 rise-put m (n ∷ ns) rise =
     let tail = each_next-tail (λ a b. is_before a.key b.key) n ns rise in
     by_place NamesRise m n ns
-    (λ h. both_hold (is_before m.key n.key) _ h rise)
+    (λ h. and_from (is_before m.key n.key) _ h rise)
     (λ e. rise-cons m ns (ap (λ (k : List ℕ). after k ns) (bytes_eq-true m.key n.key e) ∙ after-first n ns rise) tail)
     (λ h e. rise-cons n (put_member m ns) (all-put (λ k. is_before n.key k.key) m ns (is_before-other_way m.key n.key h e) (after-first n ns rise)) (rise-put m ns tail))
 
@@ -136,7 +135,7 @@ members_of-changed change t = members_of_changed change t (out-Tree t) refl
 
 -- lawful members make a lawful object
 pub lawful_object : (ms : List (Member Tree)) → AreLawful ms → is_lawful (v.Object ms) ≡ true
-lawful_object ms l = is_lawful-Object ms ∙ both_hold _ _ l.rising l.values
+lawful_object ms l = is_lawful-Object ms ∙ and_from _ _ l.rising l.values
 
 lawful_changed : (change : List (Member Tree) → List (Member Tree)) (t : Tree) (y : Tree-F Tree) → is_lawful t ≡ true → ((ms : List (Member Tree)) → members_in y ≡ Some ms → AreLawful (change ms)) → is_lawful (with_members_in change t y) ≡ true
 lawful_changed change t (Tree-F.Null) lawful keeps = lawful

@@ -7,13 +7,13 @@ use Rattle.json_tree.specs.declared.place.Step.{Step}
 use Rattle.json_tree.specs.declared.place.Step.TheVariants.{Key}
 use Rattle.json_tree.specs.Trees.{is_lawful, AreLawful}
 use Rattle.json_tree.specs.Places.{child_of, look, names_in, names_at, members_of, value_of}
-use Rattle.json_tree.proofs.Rising.{bytes_eq-itself}
-use Rattle.json_tree.proofs.TreeLemmas.{child_of-members, names_at-members, members_of-Some, lawful_members}
+use Rattle.json_tree.proofs.Rising.{bytes_eq-itself, left_of, right_of}
+use Rattle.json_tree.proofs.TreeLemmas.{child_of-members, names_at-members, members_of-Some, lawful_members, look_nothing}
 use Rattle.nquads.specs.Terms.{Statement}
 use Rattle.ld_rdf.specs.Flat.{at_context, context_place, term_place, document_place}
 use Rattle.ld_rdf.specs.Internal.Parts.{only_if, only_in, only_of, two_in, context_value, supplied_context}
 use Rattle.ld_rdf.proofs.WholeRequests.{document_statements, flat_statements}
-use Rattle.ld_rdf.proofs.OptionsAndLists.{and_then-Some, option_map-Some, provided-Some, and_left, and_right}
+use Rattle.ld_rdf.proofs.OptionsAndLists.{and_then-Some, option_map-Some, provided-Some}
 use Rattle.base_types.proofs.Lists.{same_some}
 use Rattle.base_types.proofs.Orders.{bytes_eq-true, bytes_eq-same}
 
@@ -25,10 +25,6 @@ step_down t u key place is = ap (option_and_then (look place)) is
 -- the names at a place below a member are those of its value
 pub names_down : (t u : Tree) (key : List ℕ) (place : List Step) → child_of t (Key key) ≡ Some u → names_at (Key key ∷ place) t ≡ names_at place u
 names_down t u key place is = ap (option_and_then (λ w. names_in (out-Tree w))) (step_down t u key place is)
-
-look_nothing : (o : Option Tree) → option_and_then (look []) o ≡ o
-look_nothing None = refl
-look_nothing (Some t) = refl
 
 -- the last step
 last_down : (t : Tree) (members : List (Member Tree)) (key : List ℕ) → members_of t ≡ Some members → look (Key key ∷ []) t ≡ value_of key members
@@ -43,10 +39,10 @@ pub members_are_lawful : (t : Tree) (members : List (Member Tree)) → is_lawful
 members_are_lawful t members lawful is = lawful_members t members members lawful (members_of-Some t members is) refl
 
 first_lawful : (m : Member Tree) (ms : List (Member Tree)) → AreLawful (m ∷ ms) → is_lawful m.value ≡ true
-first_lawful m ms all = and_left (is_lawful m.value) _ all.values
+first_lawful m ms all = left_of (is_lawful m.value) _ all.values
 
 second_lawful : (m n : Member Tree) (ms : List (Member Tree)) → AreLawful (m ∷ n ∷ ms) → is_lawful n.value ≡ true
-second_lawful m n ms all = and_left (is_lawful n.value) _ (and_right (is_lawful m.value) _ all.values)
+second_lawful m n ms all = left_of (is_lawful n.value) _ (right_of (is_lawful m.value) _ all.values)
 
 -- ---- the shape
 
@@ -162,8 +158,8 @@ two_members (c ∷ (d ∷ [])) values h =
       contexts = c;
       document = d;
       is = refl;
-      contexts_key = bytes_eq-true c.key _ (and_left (bytes_eq c.key (codes "contexts")) _ given.0);
-      document_key = bytes_eq-true d.key _ (and_right (bytes_eq c.key (codes "contexts")) _ given.0);
+      contexts_key = bytes_eq-true c.key _ (left_of (bytes_eq c.key (codes "contexts")) _ given.0);
+      document_key = bytes_eq-true d.key _ (right_of (bytes_eq c.key (codes "contexts")) _ given.0);
       contexts_value = ap (λ (p : Tree × Tree). p.0) pair;
       document_value = ap (λ (p : Tree × Tree). p.1) pair;
     }

@@ -9,10 +9,12 @@ use Rattle.nquads.proofs.ReadingElements.{All-from_contains, from_rising, to_ris
 use Rattle.nquads.proofs.ReadingBlanks.{to_blanks_in}
 use Rattle.nquads.proofs.ReadingLines.{line_one_reading, line_names_statement, IsLine-line, one_split}
 
-to_canonical_lines : (f : Blank → List ℕ) (q : List Statement) (s : Statement) → Contains q s → Contains (canonical_lines f q) (line f s)
+-- the line of each statement stands among the canonical lines
+pub to_canonical_lines : (f : Blank → List ℕ) (q : List Statement) (s : Statement) → Contains q s → Contains (canonical_lines f q) (line f s)
 to_canonical_lines f q s m = to_rising (map (line f) q) (line f s) (Contains-map (line f) q s m)
 
-from_canonical_lines : (f : Blank → List ℕ) (q : List Statement) (l : List ℕ) → Contains (canonical_lines f q) l → (s : Statement) × Contains q s × (line f s ≡ l)
+-- and each canonical line is that of a statement
+pub from_canonical_lines : (f : Blank → List ℕ) (q : List Statement) (l : List ℕ) → Contains (canonical_lines f q) l → (s : Statement) × Contains q s × (line f s ≡ l)
 from_canonical_lines f q l m = Contains-from_map (line f) q l (from_rising (map (line f) q) l m)
 
 -- each canonical line is one line

@@ -1,7 +1,7 @@
 -- Canonical identifiers are labels that differ, so a canonical text is that of one dataset, up to blank nodes.
 use Rattle.std.proofs.Common.{◌≡◌, ℕ, ◌+◌, ◌-◌, ◌^◌, ◌<◌, ◌≤◌, ◌%◌, ◌==◌, List, [], ◌∷◌, ◌++◌, length, All, true, false, codes, decimal, drop, refl, sym, ap, ◌∙◌, arith}
 use Rattle.std.specs.List.{AllByRecursion}
-use Rattle.std.proofs.lemmas.Bool.{false≢true, false_from_ne_true}
+use Rattle.std.proofs.lemmas.Bool.{false≢true, false_from_ne_true, eqb-false}
 use Rattle.std.proofs.lemmas.Bool.Decides.{Decides-eqb, nat_tests}
 use Rattle.std.proofs.lemmas.Fmt.{decimal_by_steps, decimal_injective}
 use Rattle.std.proofs.lemmas.List.Elements.{All-from_recursion}
@@ -23,9 +23,6 @@ use Rattle.rdfc_ndegree.proofs.RunAgree.{labels-unique, tie-exactly}
 
 -- ---- an identifier is a label
 
-apart : (m n : ℕ) → (m == n) ≡ false → m ≡ n → ⊥
-apart m n f e = false≢true (sym f ∙ (Decides-eqb m n).1 e)
-
 -- a character that may stand anywhere in a label
 abbrev IsInner : ℕ → Type 0
 IsInner c = (is_label_character c ≡ true) × ((c == 46) ≡ false)
@@ -46,8 +43,8 @@ identifier-label n lt =
     record {
       not_empty = λ e. let none = ap length e in absurd (omega arith);
       characters = λ k d in'. (all k d in').0;
-      first = (apart 99 45 refl, apart 99 46 refl);
-      last = λ e. apart _ 46 (all (length text - 1) 0 (omega arith)).1 e;
+      first = (eqb-false 99 45 refl, eqb-false 99 46 refl);
+      last = λ e. eqb-false _ 46 (all (length text - 1) 0 (omega arith)).1 e;
     }
 
 -- ---- the labels of a run

@@ -14,7 +14,7 @@ use Rattle.nquads.specs.Spelling.{iri_text}
 use Rattle.nquads.specs.Lines.{term_text, graph_text, line_text, line, canonical_text}
 use Rattle.nquads.specs.FirstDegree.{blanks, mentions, mention_set, mark, first_degree_hash}
 use Rattle.nquads.proofs.ReadingElements.{All-from_contains, AllDiffer-map}
-use Rattle.nquads.proofs.ReadingBlanks.{chosen, same_blank-true, same_blank-itself, same_blank-false, rename-rename, rename-itself, blanks_of-rename, to_blanks_in}
+use Rattle.nquads.proofs.ReadingBlanks.{chosen, same_blank-true, same_blank-itself, same_blank-false, rename-rename, rename-itself, blanks_of-rename, to_blanks_in, blanks_of_term-rename, blanks_of_graph-rename}
 use Rattle.nquads.proofs.ReadingRenamings.{IsDataset-rename, one_to_one-from_Same}
 use Rattle.nquads.proofs.ReadingSame.{line-rename, text_carried}
 use Rattle.rdfc_ndegree.specs.Nodes.{Occurrence}
@@ -62,15 +62,6 @@ text-agree f g q h =
     (map-agree (InPlace q) (line f) (line g) (λ s p. line-agree f g s (Each-weaker (StandsIn q) (λ b. f b ≡ g b) h (blanks_of s) p)) q (in_place q))
 
 -- ---- one statement
-
-term_blanks : (f : Blank → Blank) (t : Term) → blanks_of_term (rename_term f t) ≡ map f (blanks_of_term t)
-term_blanks f (iri x) = refl
-term_blanks f (literal x k l) = refl
-term_blanks f (blank b) = refl
-
-graph_blanks : (f : Blank → Blank) (t : Option Term) → blanks_of_graph (option_map (rename_term f) t) ≡ map f (blanks_of_graph t)
-graph_blanks f None = refl
-graph_blanks f (Some t) = term_blanks f t
 
 all_blanks : (f : Blank → Blank) (q : List Statement) → flat_map blanks_of (map (rename f) q) ≡ map f (flat_map blanks_of q)
 all_blanks f [] = refl
@@ -124,10 +115,10 @@ module _ (f : Blank → Blank) (q : List Statement) (o : IsOneToOne f q) where
       let objects : List (Occurrence Blank) = occurrences_at n position.Object (iri_text s.predicate) (blanks_of_term s.object) in
       let graphs : List (Occurrence Blank) = occurrences_at n position.Graph (iri_text s.predicate) (blanks_of_graph s.graph) in
       ap₂ (λ a b. a ++ b)
-      (at-renamed n position.Subject (iri_text s.predicate) (blanks_of_term s.subject) (blanks_of_term (rename_term f s.subject)) d (Each-left (StandsIn q) (blanks_of_term s.subject) (blanks_of_term s.object ++ blanks_of_graph s.graph) h) (term_blanks f s.subject))
+      (at-renamed n position.Subject (iri_text s.predicate) (blanks_of_term s.subject) (blanks_of_term (rename_term f s.subject)) d (Each-left (StandsIn q) (blanks_of_term s.subject) (blanks_of_term s.object ++ blanks_of_graph s.graph) h) (blanks_of_term-rename f s.subject))
       (ap₂ (λ a b. a ++ b)
-      (at-renamed n position.Object (iri_text s.predicate) (blanks_of_term s.object) (blanks_of_term (rename_term f s.object)) d (Each-left (StandsIn q) (blanks_of_term s.object) (blanks_of_graph s.graph) rest) (term_blanks f s.object))
-      (at-renamed n position.Graph (iri_text s.predicate) (blanks_of_graph s.graph) (blanks_of_graph (option_map (rename_term f) s.graph)) d (Each-right (StandsIn q) (blanks_of_term s.object) (blanks_of_graph s.graph) rest) (graph_blanks f s.graph)))
+      (at-renamed n position.Object (iri_text s.predicate) (blanks_of_term s.object) (blanks_of_term (rename_term f s.object)) d (Each-left (StandsIn q) (blanks_of_term s.object) (blanks_of_graph s.graph) rest) (blanks_of_term-rename f s.object))
+      (at-renamed n position.Graph (iri_text s.predicate) (blanks_of_graph s.graph) (blanks_of_graph (option_map (rename_term f) s.graph)) d (Each-right (StandsIn q) (blanks_of_term s.object) (blanks_of_graph s.graph) rest) (blanks_of_graph-rename f s.graph)))
       ∙ sym (map-append (carried f) subjects (objects ++ graphs) ∙ ap (λ l. map (carried f) subjects ++ l) (map-append (carried f) objects graphs))
 
   each-renamed : (n : Blank) (ss : List Statement) → StandsIn q n → AllByRecursion (InPlace q) ss → flat_map (occurrences_in (f n)) (map (rename f) ss) ≡ map (carried f) (flat_map (occurrences_in n) ss)

@@ -21,14 +21,14 @@ use Rattle.nquads.proofs.ReadingBlanks.{from_blanks_in}
 use Rattle.nquads.proofs.ReadingElements.{All-from_contains, AllDiffer-nil, AllDiffer-cons}
 use Rattle.stmt_groups.specs.declared.types.BaseRecord.{BaseRecord}
 use Rattle.stmt_groups.specs.Datasets.{IsLabelled, dataset_lines}
-use Rattle.stmt_groups.specs.Example.{key, signature, statement, statement_line, dataset, first_record, second_record, history, ledger, derived}
+use Rattle.stmt_groups.specs.Example.{nth_key, nth_signature, statement, statement_line, dataset, first_record, second_record, history, ledger, derived_document}
 use Rattle.stmt_groups.specs.Premises.{IsInUse, NoForgery, PremisesHold}
 use Rattle.stmt_groups.specs.Proofs.{IsGood, mandatory_lines, verify_bytes}
 use Rattle.stmt_groups.specs.Soundness.{KeysServeOnce, NoCollision, NoTextsCollide}
 use Rattle.stmt_groups.specs.Records.{Signing, history_signings, HasLines, IsRecord, IsSplit}
 use Rattle.stmt_groups.proofs.Covering.{exact_forges_nothing, entry_signing}
 use Rattle.stmt_groups.proofs.Revealing.{record_has_lines}
-use Rattle.std.proofs.lemmas.Bool.{not-true}
+use Rattle.std.proofs.lemmas.Bool.{not-true, eqb-false}
 
 -- ---- statements
 
@@ -132,13 +132,10 @@ example_records = (first_is_record, second_is_record)
 
 -- ---- the premises
 
-same_numbers : (m n : ℕ) → (m == n) ≡ false → m ≡ n → ⊥
-same_numbers m n p e = grind (arith, nat_tests)
-
-keys_differ : (m n : ℕ) → (m == n) ≡ false → key m ≡ key n → ⊥
+keys_differ : (m n : ℕ) → (m == n) ≡ false → nth_key m ≡ nth_key n → ⊥
 keys_differ m n p e =
     let same : m ≡ n = ap (λ (k : KeyName). slice_index k.bytes 0) e in
-    same_numbers m n p same
+    eqb-false m n p same
 
 key_of : BaseRecord → KeyName
 key_of r = r.key
@@ -149,9 +146,9 @@ each_record P one two r c = elim (one_of_two first_record second_record r c) [
   | inr e ↦ subst P e two
 ]
 
-in_use_owned : (k : KeyName) → IsInUse history (key 1) k → has_key ledger.keys k ≡ true
+in_use_owned : (k : KeyName) → IsInUse history (nth_key 1) k → has_key ledger.keys k ≡ true
 in_use_owned k (inl e) = subst (λ (z : KeyName). has_key ledger.keys z ≡ true) (sym e) refl
-in_use_owned k (inr c) = elim (one_of_two (key 2) (key 3) k c) [
+in_use_owned k (inr c) = elim (one_of_two (nth_key 2) (nth_key 3) k c) [
   | inl e ↦ subst (λ (z : KeyName). has_key ledger.keys z ≡ true) e refl
   | inr e ↦ subst (λ (z : KeyName). has_key ledger.keys z ≡ true) e refl
 ]
@@ -159,30 +156,30 @@ in_use_owned k (inr c) = elim (one_of_two (key 2) (key 3) k c) [
 made_for_records : map entry_signing ledger.log ≡ history_signings history
 made_for_records = refl
 
-example_no_forgery : NoForgery (ledger_meaning ledger) history (key 1)
+example_no_forgery : NoForgery (ledger_meaning ledger) history (nth_key 1)
 example_no_forgery =
-    exact_forges_nothing (ledger_meaning ledger) history (key 1) ledger.log refl (ledger_means_its_log ledger refl) in_use_owned
+    exact_forges_nothing (ledger_meaning ledger) history (nth_key 1) ledger.log refl (ledger_means_its_log ledger refl) in_use_owned
     (λ e c _. subst (λ (xs : List Signing). Contains xs (entry_signing e)) made_for_records (Contains-map entry_signing ledger.log e c))
 
-example_keys : KeysServeOnce history (key 1)
+example_keys : KeysServeOnce history (nth_key 1)
 example_keys = record {
-  differ = AllDiffer-cons (key 2) (key 3 ∷ []) (λ c. keys_differ 3 2 refl (only (key 3) (key 2) c)) (AllDiffer-cons (key 3) [] (Contains-nil (key 3)) AllDiffer-nil);
+  differ = AllDiffer-cons (nth_key 2) (nth_key 3 ∷ []) (λ c. keys_differ 3 2 refl (only (nth_key 3) (nth_key 2) c)) (AllDiffer-cons (nth_key 3) [] (Contains-nil (nth_key 3)) AllDiffer-nil);
   no_issuer = λ r s c d.
-      subst (λ (k : KeyName). r.key ≢ k) (each_record (λ (t : BaseRecord). key 1 ≡ t.issuer) refl refl s d)
-      (each_record (λ (t : BaseRecord). t.key ≢ key 1) (keys_differ 2 1 refl) (keys_differ 3 1 refl) r c);
-  not_this_issuer = each_record (λ (t : BaseRecord). t.key ≢ key 1) (keys_differ 2 1 refl) (keys_differ 3 1 refl);
+      subst (λ (k : KeyName). r.key ≢ k) (each_record (λ (t : BaseRecord). nth_key 1 ≡ t.issuer) refl refl s d)
+      (each_record (λ (t : BaseRecord). t.key ≢ nth_key 1) (keys_differ 2 1 refl) (keys_differ 3 1 refl) r c);
+  not_this_issuer = each_record (λ (t : BaseRecord). t.key ≢ nth_key 1) (keys_differ 2 1 refl) (keys_differ 3 1 refl);
 }
 
-example_texts : NoTextsCollide history derived
+example_texts : NoTextsCollide history derived_document
 example_texts = record {
-  options = each_record (λ (t : BaseRecord). t.issuer ≡ key 1 → t.key ≡ key 2 → NoCollision t.options (dataset_lines derived.options))
+  options = each_record (λ (t : BaseRecord). t.issuer ≡ nth_key 1 → t.key ≡ nth_key 2 → NoCollision t.options (dataset_lines derived_document.options))
       (λ _ _ _. refl) (λ _ k _. absurd (keys_differ 3 2 refl k));
-  mandatory = each_record (λ (t : BaseRecord). t.issuer ≡ key 1 → t.key ≡ key 2 → NoCollision t.mandatory (mandatory_lines derived))
+  mandatory = each_record (λ (t : BaseRecord). t.issuer ≡ nth_key 1 → t.key ≡ nth_key 2 → NoCollision t.mandatory (mandatory_lines derived_document))
       (λ _ _ _. refl) (λ _ k _. absurd (keys_differ 3 2 refl k));
 }
 
 -- the premises hold of the history of both
-pub example_premises : PremisesHold (ledger_meaning ledger) history derived
+pub example_premises : PremisesHold (ledger_meaning ledger) history derived_document
 example_premises = record {
   have_lines = All-cons HasLines first_record (second_record ∷ []) (record_has_lines _ _ _ first_record first_is_record)
       (All-cons HasLines second_record [] (record_has_lines _ _ _ second_record second_is_record) (All-nil HasLines));
@@ -194,7 +191,7 @@ example_premises = record {
 -- ---- the proof
 
 -- the document's and the options' datasets have labels
-pub example_labels : IsLabelled derived.document × IsLabelled derived.options
+pub example_labels : IsLabelled derived_document.document × IsLabelled derived_document.options
 example_labels = (labelled (codes "urn:a" ∷ codes "urn:c" ∷ []) refl, labelled (codes "urn:o" ∷ []) refl)
 
 accepted_at : (n : ℕ) (k : KeyName) (bytes : List ℕ) (s : Signature) → n < length ledger.log → get_or ledger.log n (log_entry k bytes s) ≡ log_entry k bytes s → has_entry ledger.log k bytes s ≡ true
@@ -202,11 +199,11 @@ accepted_at n k bytes s lt is =
     list_any_at (is_entry k bytes s) ledger.log n (log_entry k bytes s) lt (ap (is_entry k bytes s) is ∙ is_entry-itself k bytes s)
 
 -- the proof is good
-pub example_good : IsGood (ledger_meaning ledger).accepts derived
+pub example_good : IsGood (ledger_meaning ledger).accepts derived_document
 example_good = record {
   not_empty = λ e. absurd (cc);
-  below = All-cons (λ i. i < length (dataset_lines derived.document)) 0 [] (omega arith) (All-nil _);
+  below = All-cons (λ i. i < length (dataset_lines derived_document.document)) 0 [] (omega arith) (All-nil _);
   counts = refl;
-  base_signature = accepted_at 2 (key 1) (verify_bytes derived) (signature 3) (omega arith) refl;
-  statement_signatures = (accepted_at 1 (key 2) (statement_line (codes "urn:c")) (signature 2) (omega arith) refl, tt);
+  base_signature = accepted_at 2 (nth_key 1) (verify_bytes derived_document) (nth_signature 3) (omega arith) refl;
+  statement_signatures = (accepted_at 1 (nth_key 2) (statement_line (codes "urn:c")) (nth_signature 2) (omega arith) refl, tt);
 }

@@ -9,7 +9,7 @@ use Rattle.nquads.specs.Terms.{Blank, by_label, IsStatement, Statement}
 use Rattle.nquads.specs.Renaming.{Same, StandsIn, blanks_of, rename}
 use Rattle.nquads.specs.Lines.{HasLabels, canonical_lines, line, with_labels}
 use Rattle.nquads.proofs.ReadingBlanks.{blanks_of-rename, from_blanks_in, rename-rename, to_blanks_in}
-use Rattle.nquads.proofs.ReadingDatasets.{canonical_lines_are_lines}
+use Rattle.nquads.proofs.ReadingDatasets.{canonical_lines_are_lines, to_canonical_lines, from_canonical_lines}
 use Rattle.nquads.proofs.ReadingElements.{All-from_contains, from_rising, to_rising}
 use Rattle.nquads.proofs.ReadingLines.{line_one_reading, statement_from_renamed}
 use Rattle.nquads.proofs.ReadingRenamings.{Same-from_one_to_one}
@@ -45,12 +45,6 @@ with_label-found g (x ∷ xs) l b a c e =
     ]) e)
 
 -- ---- lines of statements
-
-to_lines : (f : Blank → List ℕ) (q : List Statement) (s : Statement) → Contains q s → Contains (canonical_lines f q) (line f s)
-to_lines f q s m = to_rising (map (line f) q) (line f s) (Contains-map (line f) q s m)
-
-from_lines : (f : Blank → List ℕ) (q : List Statement) (l : List ℕ) → Contains (canonical_lines f q) l → (s : Statement) × Contains q s × (line f s ≡ l)
-from_lines f q l m = Contains-from_map (line f) q l (from_rising (map (line f) q) l m)
 
 -- ---- one renaming, by the labels
 
@@ -119,17 +113,17 @@ module _ (issued issued_options : LabelledDataset) (mandatory : List Statement) 
 
     at_indexes : (s : Statement) → IsAt indexes document s → (t : Statement) × Contains mandatory t × Contains issued.statements t × (line issued.label t ≡ line document.label s)
     at_indexes s at =
-        let w = from_lines issued.label mandatory (line document.label s) (subst (λ ls. Contains ls (line document.label s)) (h.mandatory ∙ made.mandatory_lines) at.1) in
+        let w = from_canonical_lines issued.label mandatory (line document.label s) (subst (λ ls. Contains ls (line document.label s)) (h.mandatory ∙ made.mandatory_lines) at.1) in
         (w.0, w.1, All-contains (Contains issued.statements) mandatory w.0 made.split.part w.1, w.2)
 
     elsewhere : (s : Statement) → IsElsewhere indexes document s → (t : Statement) × Contains made.others t × (line issued.label t ≡ line document.label s)
     elsewhere s at =
-        from_lines issued.label made.others (line document.label s)
+        from_canonical_lines issued.label made.others (line document.label s)
         (subst (λ ls. Contains ls (line document.label s)) made.other_lines (All-contains (Contains r.others) (other_lines indexes (dataset_lines document)) (line document.label s) h.others at.1))
 
     issued_of : (s : Statement) → Contains document.statements s → (t : Statement) × Contains issued.statements t × (line document.label s ≡ line issued.label t)
     issued_of s m =
-        elim (Contains-append_cases (lines_at indexes (dataset_lines document)) (other_lines indexes (dataset_lines document)) (line document.label s) ((lines_are_split indexes (dataset_lines document) (line document.label s)).1 (to_lines document.label document.statements s m))) [
+        elim (Contains-append_cases (lines_at indexes (dataset_lines document)) (other_lines indexes (dataset_lines document)) (line document.label s) ((lines_are_split indexes (dataset_lines document) (line document.label s)).1 (to_canonical_lines document.label document.statements s m))) [
           | inl c ↦ let w = at_indexes s (m, c) in (w.0, w.2, sym w.3)
           | inr c ↦ let w = elsewhere s (m, c) in (w.0, ((made.split.rest w.0).0 w.1).0, sym w.2)
         ]
@@ -143,10 +137,10 @@ module _ (issued issued_options : LabelledDataset) (mandatory : List Statement) 
     to_mandatory : (t : Statement) → Contains mandatory t → (s : Statement) × IsAt indexes document s × (rename sends s ≡ t)
     to_mandatory t c =
         let listed : Contains (lines_at indexes (dataset_lines document)) (line issued.label t) =
-        subst (λ ls. Contains ls (line issued.label t)) (sym (h.mandatory ∙ made.mandatory_lines)) (to_lines issued.label mandatory t c) in
+        subst (λ ls. Contains ls (line issued.label t)) (sym (h.mandatory ∙ made.mandatory_lines)) (to_canonical_lines issued.label mandatory t c) in
         let here : Contains (dataset_lines document) (line issued.label t) =
         (lines_are_split indexes (dataset_lines document) (line issued.label t)).0 (Contains-append_left (lines_at indexes (dataset_lines document)) (other_lines indexes (dataset_lines document)) (line issued.label t) listed) in
-        let w = from_lines document.label document.statements (line issued.label t) here in (
+        let w = from_canonical_lines document.label document.statements (line issued.label t) here in (
           w.0,
           (w.1, subst (Contains (lines_at indexes (dataset_lines document))) (sym w.2) listed),
           sent_to w.0 t w.1 (All-contains (Contains issued.statements) mandatory t made.split.part c) w.2,
@@ -181,7 +175,7 @@ lies_between document indexes issued mandatory r within =
       All-from_contains (Contains issued) part (λ t c.
           let w = Contains-from_map (rename r.renaming) document.statements t c in
           let l = line document.label w.0 in
-          elim (Contains-append_cases (lines_at indexes (dataset_lines document)) (other_lines indexes (dataset_lines document)) l ((lines_are_split indexes (dataset_lines document) l).1 (to_lines document.label document.statements w.0 w.1))) [
+          elim (Contains-append_cases (lines_at indexes (dataset_lines document)) (other_lines indexes (dataset_lines document)) l ((lines_are_split indexes (dataset_lines document) l).1 (to_canonical_lines document.label document.statements w.0 w.1))) [
             | inl d ↦ All-contains (Contains issued) mandatory t within ((r.exactly_mandatory t).1 (w.0, (w.1, d), w.2))
             | inr d ↦ subst (Contains issued) w.2 (r.others_issued w.0 (w.1, d)).0
           ]),

@@ -11,12 +11,12 @@ use Rattle.stmt_groups.specs.Proofs.{VerifyData}
 use Rattle.stmt_groups.specs.Records.{sign_data}
 
 -- a key of one byte, repeated
-abbrev pub key : ℕ → KeyName
-key n = record { bytes = replicate 35 n }
+abbrev pub nth_key : ℕ → KeyName
+nth_key n = record { bytes = replicate 35 n }
 
 -- a signature of one byte, repeated
-abbrev pub signature : ℕ → Signature
-signature n = record { bytes = replicate 64 n }
+abbrev pub nth_signature : ℕ → Signature
+nth_signature n = record { bytes = replicate 64 n }
 
 -- the statement that urn:s has this value of urn:p
 abbrev pub statement : List ℕ → Statement
@@ -39,8 +39,8 @@ dataset values = record { statements = map statement values; label = λ b. [] }
 -- a record whose mandatory statement is that of urn:a
 abbrev pub first_record : BaseRecord
 first_record = record {
-  issuer = key 1;
-  key = key 2;
+  issuer = nth_key 1;
+  key = nth_key 2;
   options = statement_line (codes "urn:o") ∷ [];
   mandatory = statement_line (codes "urn:a") ∷ [];
   others = statement_line (codes "urn:b") ∷ statement_line (codes "urn:c") ∷ [];
@@ -49,8 +49,8 @@ first_record = record {
 -- another, of the same issuer
 abbrev pub second_record : BaseRecord
 second_record = record {
-  issuer = key 1;
-  key = key 3;
+  issuer = nth_key 1;
+  key = nth_key 3;
   options = statement_line (codes "urn:q") ∷ [];
   mandatory = statement_line (codes "urn:a") ∷ [];
   others = statement_line (codes "urn:d") ∷ [];
@@ -61,33 +61,33 @@ abbrev pub history : List BaseRecord
 history = first_record ∷ second_record ∷ []
 
 -- the bytes that the issuer key signs for a record
-abbrev pub base_of : BaseRecord → List ℕ
-base_of r = sign_data r.options r.key r.mandatory
+abbrev pub bytes_to_sign : BaseRecord → List ℕ
+bytes_to_sign r = sign_data r.options r.key r.mandatory
 
 -- the device that made these signatures, and no others
 abbrev pub ledger : Ledger
 ledger = record {
-  keys = key 1 ∷ key 2 ∷ key 3 ∷ [];
+  keys = nth_key 1 ∷ nth_key 2 ∷ nth_key 3 ∷ [];
   log =
-      log_entry (key 2) (statement_line (codes "urn:b")) (signature 1)
-      ∷ log_entry (key 2) (statement_line (codes "urn:c")) (signature 2)
-      ∷ log_entry (key 1) (base_of first_record) (signature 3)
-      ∷ log_entry (key 3) (statement_line (codes "urn:d")) (signature 4)
-      ∷ log_entry (key 1) (base_of second_record) (signature 5)
+      log_entry (nth_key 2) (statement_line (codes "urn:b")) (nth_signature 1)
+      ∷ log_entry (nth_key 2) (statement_line (codes "urn:c")) (nth_signature 2)
+      ∷ log_entry (nth_key 1) (bytes_to_sign first_record) (nth_signature 3)
+      ∷ log_entry (nth_key 3) (statement_line (codes "urn:d")) (nth_signature 4)
+      ∷ log_entry (nth_key 1) (bytes_to_sign second_record) (nth_signature 5)
       ∷ [];
   secrets = 2;
 }
 
 -- the document that shows the first record's mandatory statement and that of urn:c
-abbrev pub derived : VerifyData
-derived = record {
-  issuer = key 1;
+abbrev pub derived_document : VerifyData
+derived_document = record {
+  issuer = nth_key 1;
   document = dataset (codes "urn:a" ∷ codes "urn:c" ∷ []);
   options = dataset (codes "urn:o" ∷ []);
   proof = record {
-    key = key 2;
-    signature = signature 3;
-    signatures = signature 2 ∷ [];
+    key = nth_key 2;
+    signature = nth_signature 3;
+    signatures = nth_signature 2 ∷ [];
     indexes = 0 ∷ [];
   };
 }

@@ -12,7 +12,7 @@ ghost use Rattle.nquads.specs.Renaming.{Same};
 ghost use Rattle.nquads.specs.Terms.{Statement};
 ghost use Rattle.stmt_groups.specs.declared.types.BaseRecord.{BaseRecord};
 ghost use Rattle.stmt_groups.specs.Datasets.{LabelledDataset, IsLabelled, dataset_lines};
-ghost use Rattle.stmt_groups.specs.Example.{base_of, dataset, derived, first_record, history, key, ledger, second_record, statement};
+ghost use Rattle.stmt_groups.specs.Example.{bytes_to_sign, dataset, derived_document, first_record, history, ledger, nth_key, second_record, statement};
 ghost use Rattle.stmt_groups.specs.Lines.{lines_at, other_lines};
 ghost use Rattle.stmt_groups.specs.Premises.{IsInUse, NoForgery, PremisesHold};
 ghost use Rattle.stmt_groups.specs.Proofs.{AreBelow, IsGood, VerifyData, checked_signings, mandatory_lines, non_mandatory_lines};
@@ -106,9 +106,9 @@ pub fn several_records_meet_the_premises()
         (dataset (codes "urn:o" ∷ [])) (statement (codes "urn:a") ∷ []) first_record
         × IsRecord (dataset (codes "urn:a" ∷ codes "urn:d" ∷ []))
         (dataset (codes "urn:q" ∷ [])) (statement (codes "urn:a") ∷ []) second_record }
-    ensures labels { IsLabelled derived.document × IsLabelled derived.options }
-    ensures premises { PremisesHold (ledger_meaning ledger) history derived }
-    ensures good { IsGood (ledger_meaning ledger).accepts derived }
+    ensures labels { IsLabelled derived_document.document × IsLabelled derived_document.options }
+    ensures premises { PremisesHold (ledger_meaning ledger) history derived_document }
+    ensures good { IsGood (ledger_meaning ledger).accepts derived_document }
 {}
 
 /// The bytes that the issuer key signs, in an example: the digest of the options' line, the key,
@@ -133,14 +133,14 @@ pub fn sign_data_of_an_example()
 /// sign data under the issuer's key.
 pub fn signings_of_an_example()
     ensures all { history_signings history
-        ≡ signing (key 2) (codes "<urn:s> <urn:p> <urn:b> .\n")
-        ∷ signing (key 2) (codes "<urn:s> <urn:p> <urn:c> .\n")
-        ∷ signing (key 1) (base_of first_record)
-        ∷ signing (key 3) (codes "<urn:s> <urn:p> <urn:d> .\n")
-        ∷ signing (key 1) (base_of second_record) ∷ [] }
-    ensures checked { checked_signings derived
-        ≡ signing (key 1) (base_of first_record)
-        ∷ signing (key 2) (codes "<urn:s> <urn:p> <urn:c> .\n") ∷ [] }
+        ≡ signing (nth_key 2) (codes "<urn:s> <urn:p> <urn:b> .\n")
+        ∷ signing (nth_key 2) (codes "<urn:s> <urn:p> <urn:c> .\n")
+        ∷ signing (nth_key 1) (bytes_to_sign first_record)
+        ∷ signing (nth_key 3) (codes "<urn:s> <urn:p> <urn:d> .\n")
+        ∷ signing (nth_key 1) (bytes_to_sign second_record) ∷ [] }
+    ensures checked { checked_signings derived_document
+        ≡ signing (nth_key 1) (bytes_to_sign first_record)
+        ∷ signing (nth_key 2) (codes "<urn:s> <urn:p> <urn:c> .\n") ∷ [] }
 {}
 
 /// Which splits there are: the others are the rest where the first statement is mandatory alone; a

@@ -12,6 +12,7 @@ use Rattle.vc_cli.specs.declared.draft.Draft.{Draft}
 use Rattle.vc_cli.specs.Requests.{proof_name, with_proof, value_name}
 use Rattle.vc_cli.specs.Internal.Drafts.{IsObject, IsPrintable, with_value_at, object_with, document_with, is_named, place_of}
 use Rattle.vc_cli.proofs.Putting.{fill_new, fill_own, value_set, text_printable, with_member-Object, with_member-printable}
+use Rattle.base_types.proofs.Lists.{drop-next}
 
 -- ---- turned around
 
@@ -24,20 +25,15 @@ turned_more whole turned old new last h e = h ∙ ap (λ l. turned ++ reverse l)
 
 -- ---- places
 
-rest_is : (ms : List (Member Tree)) (at : ℕ) (n : Member Tree) → at < length ms → n ≡ get_or ms at n → drop at ms ≡ n ∷ drop (at + 1) ms
-rest_is ms at n within is =
-    let split : drop at ms ≡ get_or ms at n ∷ drop (at + 1) ms = rw (add-one, drop-cons ms at n) refl in
-    split ∙ ap (λ (x : Member Tree). x ∷ drop (at + 1) ms) (sym is)
-
 -- past a member of an earlier name the place is one further
 pub place_on : (key : List ℕ) (ms : List (Member Tree)) (at : ℕ) (n : Member Tree) → place_of key ms ≡ at + place_of key (drop at ms) → at < length ms → n ≡ get_or ms at n → is_before key n.key ≡ false → bytes_eq key n.key ≡ false → place_of key ms ≡ (at + 1) + place_of key (drop (at + 1) ms)
 place_on key ms at n h within is low other =
-    let here : place_of key (drop at ms) ≡ suc (place_of key (drop (at + 1) ms)) = ap (place_of key) (rest_is ms at n within is) ∙ (let e : place_of key (n ∷ drop (at + 1) ms) ≡ suc (place_of key (drop (at + 1) ms)) = rw (low, other) refl in e) in
+    let here : place_of key (drop at ms) ≡ suc (place_of key (drop (at + 1) ms)) = ap (place_of key) (drop-next ms at n within is) ∙ (let e : place_of key (n ∷ drop (at + 1) ms) ≡ suc (place_of key (drop (at + 1) ms)) = rw (low, other) refl in e) in
     omega (arith, h, here)
 
 place_stops : (key : List ℕ) (ms : List (Member Tree)) (at : ℕ) (n : Member Tree) → place_of key ms ≡ at + place_of key (drop at ms) → at < length ms → n ≡ get_or ms at n → (is_before key n.key || bytes_eq key n.key) ≡ true → place_of key ms ≡ at
 place_stops key ms at n h within is stop =
-    let here : place_of key (drop at ms) ≡ 0 = ap (place_of key) (rest_is ms at n within is) ∙ (let e : place_of key (n ∷ drop (at + 1) ms) ≡ 0 = rw stop refl in e) in
+    let here : place_of key (drop at ms) ≡ 0 = ap (place_of key) (drop-next ms at n within is) ∙ (let e : place_of key (n ∷ drop (at + 1) ms) ≡ 0 = rw stop refl in e) in
     omega (arith, h, here)
 
 -- before a member of a later name the place is found

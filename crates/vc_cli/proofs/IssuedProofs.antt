@@ -142,16 +142,16 @@ keeps_both first second third a b = record {
   count = let x = a.count in let y = b.count in omega arith;
 }
 
--- a call for a secret keeps all
-pub secret_keeps : (before after : DeviceMeaning) → MeansSame before after → before.faults ≤ after.faults → Keeps before after
-secret_keeps before after same count = record {
+-- what means the same, with no fewer faults, keeps all
+pub keeps_same : (before after : DeviceMeaning) → MeansSame before after → before.faults ≤ after.faults → Keeps before after
+keeps_same before after same count = record {
   acceptance = λ key bytes s e. same.acceptance key bytes s ∙ e;
   ownership = λ key e. same.ownership key ∙ e;
   exactness = same.exactness;
   count = count;
 }
 
--- so does one for a key
+-- so does what accepts and owns as much
 pub key_keeps : (before after : DeviceMeaning) → AcceptsSame before after → StillOwns before after → after.exact ≡ before.exact → before.faults ≤ after.faults → Keeps before after
 key_keeps before after acceptance ownership exactness count = record {
   acceptance = λ key bytes s e. acceptance key bytes s ∙ e;
@@ -169,6 +169,6 @@ sign_keeps before after acceptance ownership exactness count = record {
   count = count;
 }
 
-pub ruleset keeping = (keeps_self, secret_keeps, key_keeps, sign_keeps)
+pub ruleset keeping = (keeps_self, keeps_same, key_keeps, sign_keeps)
 
 pub ruleset draft_steps = (whole_count, whole_record)

@@ -11,7 +11,7 @@ use Rattle.json_tree.specs.declared.tree.Tree.TheVariants as v
 use Rattle.json_tree.specs.declared.tree.Member.{Member}
 use Rattle.json_tree.specs.declared.place.Step.TheVariants.{Key}
 use Rattle.json_tree.specs.Places.{child_of, look, members_in, members_of, text_of, value_of}
-use Rattle.json_tree.proofs.TreeLemmas.{child_of-members, members_lawful, members_of-Object, members_of-Some, text_of-Some, text_of-Text}
+use Rattle.json_tree.proofs.TreeLemmas.{child_of-members, members_lawful, members_of-Object, members_of-Some, text_of-Some, text_of-Text, look_nothing}
 use Rattle.ld_rdf.specs.Flat.{HasText, at_context}
 use Rattle.ld_rdf.specs.Internal.Parts.{only_if}
 use Rattle.ld_rdf.specs.Reduced.{with_members, with_members_in, without, without_key}
@@ -21,10 +21,6 @@ use Rattle.vc_cli.specs.Internal.Parts.{has_form, has_text, lacks, method_in, te
 use Rattle.base_types.proofs.Orders.{bytes_eq-true, bytes_eq-same}
 
 -- ---- one step
-
-look_nothing : (o : Option Tree) → option_and_then (look []) o ≡ o
-look_nothing None = refl
-look_nothing (Some t) = refl
 
 -- below the root stands the value of the member
 pub look_at : (t : Tree) (key : List ℕ) → look (at key) t ≡ option_and_then (value_of key) (members_of t)

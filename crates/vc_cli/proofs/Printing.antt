@@ -12,22 +12,23 @@ use Rattle.json_tree.specs.declared.tree.Tree.TheVariants as v
 use Rattle.json_tree.specs.declared.tree.Item.{Item}
 use Rattle.json_tree.specs.declared.tree.Member.{Member}
 use Rattle.json_tree.specs.Trees.{each_next, element, new_member, holds_version, is_in_range, is_lawful}
-use Rattle.json_tree.proofs.Rising.{both_hold, left_of, right_of}
+use Rattle.json_tree.proofs.Rising.{left_of, right_of}
 use Rattle.json_tree.proofs.TreeLemmas.{is_lawful-List, is_lawful-Whole}
 use Rattle.json_tree.proofs.Equations.{holds_version-List, holds_version-Whole, is_in_range-List}
 use Rattle.vc_cli.specs.Internal.Drafts.{IsPrintable}
 use Rattle.vc_cli.specs.ReplyTrees.{cause_fields, issued_tree, key_field, line_of, name_field, no_key_tree, number_field, refusal_tree, rejected_tree, verified_tree, whole_items}
+use Rattle.std.proofs.lemmas.Bool.{and_from}
 
 -- ---- lists of whole numbers
 
 items_rise : (from : ℕ) (ns : List ℕ) → each_next (λ i j. nat_lt i.at j.at) (whole_items from ns) ≡ true
 items_rise from [] = refl
 items_rise from (n ∷ []) = refl
-items_rise from (n ∷ (m ∷ ns)) = let next : nat_lt from (from + 1) ≡ true = grind (arith, nat_tests) in both_hold (nat_lt from (from + 1)) _ next (items_rise (from + 1) (m ∷ ns))
+items_rise from (n ∷ (m ∷ ns)) = let next : nat_lt from (from + 1) ≡ true = grind (arith, nat_tests) in and_from (nat_lt from (from + 1)) _ next (items_rise (from + 1) (m ∷ ns))
 
 items_lawful : (from : ℕ) (ns : List ℕ) → list_all (λ i. is_lawful i.value) (whole_items from ns) ≡ true
 items_lawful from [] = refl
-items_lawful from (n ∷ ns) = both_hold (is_lawful (v.Whole (pos n))) _ (is_lawful-Whole (pos n)) (items_lawful (from + 1) ns)
+items_lawful from (n ∷ ns) = and_from (is_lawful (v.Whole (pos n))) _ (is_lawful-Whole (pos n)) (items_lawful (from + 1) ns)
 
 items_whole : (from : ℕ) (ns : List ℕ) → list_any (λ i. holds_version i.value) (whole_items from ns) ≡ false
 items_whole from [] = refl
@@ -36,7 +37,7 @@ items_whole from (n ∷ ns) = rw (holds_version-Whole (pos n)) (items_whole (fro
 -- a list of whole numbers is printed as it is
 pub list_printable : (items : List (Item Tree)) (ns : List ℕ) → items ≡ whole_items 0 ns → list_all (λ i. is_in_range i.value) items ≡ true → IsPrintable (v.List items)
 list_printable items ns is small = record {
-  lawful = ap (λ (l : List (Item Tree)). is_lawful (v.List l)) is ∙ is_lawful-List (whole_items 0 ns) ∙ both_hold (each_next (λ i j. nat_lt i.at j.at) (whole_items 0 ns)) _ (items_rise 0 ns) (items_lawful 0 ns);
+  lawful = ap (λ (l : List (Item Tree)). is_lawful (v.List l)) is ∙ is_lawful-List (whole_items 0 ns) ∙ and_from (each_next (λ i j. nat_lt i.at j.at) (whole_items 0 ns)) _ (items_rise 0 ns) (items_lawful 0 ns);
   in_range = is_in_range-List items ∙ small;
   whole = ap (λ (l : List (Item Tree)). holds_version (v.List l)) is ∙ holds_version-List (whole_items 0 ns) ∙ items_whole 0 ns;
 }
@@ -60,8 +61,8 @@ items_more items ns at n is within named =
     ∙ sym (items_end 0 (take at ns) n) ∙ ap (whole_items 0) (sym longer)
 
 items_small : (items : List (Item Tree)) (i : Item Tree) → list_all (λ x. is_in_range x.value) items ≡ true → IsPrintable i.value → list_all (λ x. is_in_range x.value) (items ++ i ∷ []) ≡ true
-items_small [] i h p = both_hold (is_in_range i.value) _ p.in_range refl
-items_small (x ∷ xs) i h p = both_hold (is_in_range x.value) _ (left_of (is_in_range x.value) _ h) (items_small xs i (right_of (is_in_range x.value) _ h) p)
+items_small [] i h p = and_from (is_in_range i.value) _ p.in_range refl
+items_small (x ∷ xs) i h p = and_from (is_in_range x.value) _ (left_of (is_in_range x.value) _ h) (items_small xs i (right_of (is_in_range x.value) _ h) p)
 
 -- one element more of a list of whole numbers
 pub items_grow : (items after : List (Item Tree)) (i : Item Tree) (ns : List ℕ) (at n : ℕ) → after ≡ items ++ i ∷ [] → i ≡ element at (v.Whole (pos n)) → IsPrintable i.value → n ≡ get_or ns at 0 → at < length ns → items ≡ whole_items 0 (take at ns) → list_all (λ x. is_in_range x.value) items ≡ true → (after ≡ whole_items 0 (take (at + 1) ns)) × (list_all (λ x. is_in_range x.value) after ≡ true)

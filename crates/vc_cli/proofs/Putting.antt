@@ -4,7 +4,7 @@ use Rattle.std.specs.Str.{bytes_eq}
 use Rattle.std.specs.Ordering.{nat_cmp, is_lt, is_eq, ordering_reverse}
 use Rattle.std.specs.Cmp.Lexicographic.{slice_cmp}
 use Rattle.std.specs.List.{list_all, list_any}
-use Rattle.std.proofs.lemmas.Bool.{cases_Bool, not-true}
+use Rattle.std.proofs.lemmas.Bool.{cases_Bool, not-true, and_from}
 use Rattle.std.proofs.lemmas.Cmp.{nat_list_cmp_total}
 use Rattle.std.proofs.lemmas.Map.Text.{is_eq-slice_cmp}
 use Rattle.base_types.proofs.Lists.{Contains-here, Contains-there, Contains-cons_cases}
@@ -12,7 +12,7 @@ use Rattle.json_tree.specs.declared.tree.Tree.{Tree}
 use Rattle.json_tree.specs.declared.tree.Tree.TheVariants as v
 use Rattle.json_tree.specs.declared.tree.Member.{Member}
 use Rattle.json_tree.specs.Trees.{each_next, new_member, holds_version, is_before, is_in_range, is_lawful}
-use Rattle.json_tree.proofs.Rising.{NamesRise, left_of, right_of, both_hold}
+use Rattle.json_tree.proofs.Rising.{NamesRise, left_of, right_of}
 use Rattle.json_tree.proofs.TreeLemmas.{is_lawful-Object, is_lawful-Text}
 use Rattle.json_tree.proofs.Equations.{is_in_range-Object, is_in_range-Text, holds_version-Object, holds_version-Text}
 use Rattle.ld_rdf.specs.Reduced.{with_members_in, put_member, with_member}
@@ -39,10 +39,10 @@ module _ (x : Member Tree) where
   put_behind n [] h r = rw h refl
   put_behind n (y ∷ ys) h r =
       elim (cases_Bool (is_before x.key y.key)) [
-        | inl low ↦ subst (λ (l : List (Member Tree)). NamesRise (n ∷ l)) (sym (put_before y ys low)) (both_hold (is_before n.key x.key) _ h (both_hold (is_before x.key y.key) _ low (right_of (is_before n.key y.key) _ r)))
+        | inl low ↦ subst (λ (l : List (Member Tree)). NamesRise (n ∷ l)) (sym (put_before y ys low)) (and_from (is_before n.key x.key) _ h (and_from (is_before x.key y.key) _ low (right_of (is_before n.key y.key) _ r)))
         | inr high ↦ elim (cases_Bool (bytes_eq x.key y.key)) [
-          | inl same ↦ subst (λ (l : List (Member Tree)). NamesRise (n ∷ l)) (sym (put_instead y ys high same)) (both_hold (is_before n.key x.key) _ h (rises_instead y ys (bytes_eq-true x.key y.key same) (right_of (is_before n.key y.key) _ r)))
-          | inr other ↦ subst (λ (l : List (Member Tree)). NamesRise (n ∷ l)) (sym (put_after y ys high other)) (both_hold (is_before n.key y.key) _ (left_of (is_before n.key y.key) _ r) (put_behind y ys (is_before-other_way x.key y.key high other) (right_of (is_before n.key y.key) _ r)))
+          | inl same ↦ subst (λ (l : List (Member Tree)). NamesRise (n ∷ l)) (sym (put_instead y ys high same)) (and_from (is_before n.key x.key) _ h (rises_instead y ys (bytes_eq-true x.key y.key same) (right_of (is_before n.key y.key) _ r)))
+          | inr other ↦ subst (λ (l : List (Member Tree)). NamesRise (n ∷ l)) (sym (put_after y ys high other)) (and_from (is_before n.key y.key) _ (left_of (is_before n.key y.key) _ r) (put_behind y ys (is_before-other_way x.key y.key high other) (right_of (is_before n.key y.key) _ r)))
         ]
       ]
 
@@ -50,7 +50,7 @@ module _ (x : Member Tree) where
   put_rises [] r = refl
   put_rises (y ∷ ys) r =
       elim (cases_Bool (is_before x.key y.key)) [
-        | inl low ↦ subst NamesRise (sym (put_before y ys low)) (both_hold (is_before x.key y.key) _ low r)
+        | inl low ↦ subst NamesRise (sym (put_before y ys low)) (and_from (is_before x.key y.key) _ low r)
         | inr high ↦ elim (cases_Bool (bytes_eq x.key y.key)) [
           | inl same ↦ subst NamesRise (sym (put_instead y ys high same)) (rises_instead y ys (bytes_eq-true x.key y.key same) r)
           | inr other ↦ subst NamesRise (sym (put_after y ys high other)) (put_behind y ys (is_before-other_way x.key y.key high other) r)
@@ -61,10 +61,10 @@ module _ (x : Member Tree) where
   put_all p [] h r = rw h refl
   put_all p (y ∷ ys) h r =
       elim (cases_Bool (is_before x.key y.key)) [
-        | inl low ↦ ap (list_all p) (put_before y ys low) ∙ both_hold (p x) _ h r
+        | inl low ↦ ap (list_all p) (put_before y ys low) ∙ and_from (p x) _ h r
         | inr high ↦ elim (cases_Bool (bytes_eq x.key y.key)) [
-          | inl same ↦ ap (list_all p) (put_instead y ys high same) ∙ both_hold (p x) _ h (right_of (p y) _ r)
-          | inr other ↦ ap (list_all p) (put_after y ys high other) ∙ both_hold (p y) _ (left_of (p y) _ r) (put_all p ys h (right_of (p y) _ r))
+          | inl same ↦ ap (list_all p) (put_instead y ys high same) ∙ and_from (p x) _ h (right_of (p y) _ r)
+          | inr other ↦ ap (list_all p) (put_after y ys high other) ∙ and_from (p y) _ (left_of (p y) _ r) (put_all p ys h (right_of (p y) _ r))
         ]
       ]
 
@@ -99,7 +99,7 @@ pub with_member-lawful : (key : List ℕ) (value : Tree) (ms : List (Member Tree
 with_member-lawful key value ms one all =
     let parts = sym (is_lawful-Object ms) ∙ all in
     ap is_lawful (with_member-Object key value ms) ∙ is_lawful-Object (put_member (new_member key value) ms)
-    ∙ both_hold (each_next (λ m n. is_before m.key n.key) (put_member (new_member key value) ms)) _
+    ∙ and_from (each_next (λ m n. is_before m.key n.key) (put_member (new_member key value) ms)) _
     (put_rises (new_member key value) ms (left_of (each_next (λ m n. is_before m.key n.key) ms) _ parts))
     (put_all (new_member key value) (λ m. is_lawful m.value) ms one (right_of (each_next (λ m n. is_before m.key n.key) ms) _ parts))
 
@@ -124,7 +124,7 @@ none_of p (x ∷ xs) h = rw (not-true (p x) (left_of (not (p x)) _ h)) (none_of 
 -- where none passes each fails
 pub all_of : {X : Type 0} (p : X → Bool) (xs : List X) → list_any p xs ≡ false → list_all (λ x. not (p x)) xs ≡ true
 all_of p [] h = refl
-all_of p (x ∷ xs) h = both_hold (not (p x)) _ (ap not (no_left (p x) _ h)) (all_of p xs (no_right (p x) _ h))
+all_of p (x ∷ xs) h = and_from (not (p x)) _ (ap not (no_left (p x) _ h)) (all_of p xs (no_right (p x) _ h))
 
 with_member-whole : (key : List ℕ) (value : Tree) (ms : List (Member Tree)) → holds_version value ≡ false → holds_version (v.Object ms) ≡ false → holds_version (with_member key value (v.Object ms)) ≡ false
 with_member-whole key value ms one all =

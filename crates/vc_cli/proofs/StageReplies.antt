@@ -21,6 +21,7 @@ use Rattle.vc_cli.specs.ReplyTrees.{issued_tree, line_of, unknown_method_tree, v
 use Rattle.vc_cli.specs.Replies.{input_limit}
 use Rattle.vc_cli.specs.Answers.{AnswersRequest, HasIssued, IsInput, IssueAnswers, Keeps, Signs, StatementsAnswers, VerifyAnswers}
 use Rattle.vc_cli.specs.Internal.Stages.{HasSoundReply, IsInputRead, IsIssuedFor, IsIssuedReply, IsNoTree, IsRejectedReply, IsReply, IsSoundReply, IsTreeRead, IsUnissuedReply, IsUnknownReply, IsUnownedReply, IsUnread, IsUnverifiedReply, IsValueReply, IsVerifiedReply, Issues, SignsFor, Verifies}
+use Rattle.vc_cli.proofs.IssuedProofs.{keeps_self}
 
 -- ---- the input
 
@@ -226,20 +227,7 @@ pub read_sound : (source : SourceMeaning) (accepts : Acceptance) (bytes : List �
 read_sound source accepts bytes t (reply.Yes line) input reads s = record { bytes = bytes; request = t; verify_case = s.0; issuer = s.1; input = input; reads = reads; is_case = s.2; is_yes = s.3; is_sound = s.4 }
 read_sound source accepts bytes t other input reads s = tt
 
--- ---- what a device keeps
-
--- a device that is not used keeps all
-pub keeps_itself : (device : DeviceMeaning) → Keeps device device
-keeps_itself device = record { acceptance = λ key bytes s e. e; ownership = λ key e. e; exactness = refl; count = omega arith }
-
--- so does one that means the same, with no fewer faults
-pub keeps_same : (before after : DeviceMeaning) → MeansSame before after → before.faults ≤ after.faults → Keeps before after
-keeps_same before after same count = record {
-  acceptance = λ key bytes s e. same.acceptance key bytes s ∙ e;
-  ownership = λ key e. same.ownership key ∙ e;
-  exactness = same.exactness;
-  count = count;
-}
+-- ---- what a device means
 
 -- a device means the same as itself
 pub means_itself : (device : DeviceMeaning) → MeansSame device device
@@ -247,7 +235,7 @@ means_itself device = record { acceptance = λ key bytes s. refl; ownership = λ
 
 pub ruleset statement_steps = (unread_answers, read_answers)
 
-pub ruleset issue_steps = (unread_answers, read_answers, issued_answers, unissued_answers, keeps_itself)
+pub ruleset issue_steps = (unread_answers, read_answers, issued_answers, unissued_answers, keeps_self)
 
 pub ruleset verify_steps = (unread_answers, read_answers, unread_sound, read_sound, verified_answers, verified_sound, rejected_answers, rejected_sound, unverified_answers, unverified_sound, means_itself)
 

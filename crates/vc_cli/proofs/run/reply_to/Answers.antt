@@ -1,8 +1,9 @@
 use Rattle.std.proofs.Common.{inl, inr}
 use Rattle.vc_cli.specs.Answers.{IsIssueCommand, IsVerifyCommand}
-use Rattle.vc_cli.proofs.StageReplies.{keeps_itself, keeps_same, verify_signs}
+use Rattle.vc_cli.proofs.StageReplies.{verify_signs}
 use Rattle.vc_cli.proofs.CommandWords.{answers_issue, answers_verify, is_told, issue_not_verify, not_told}
 use Rattle.vc_cli.proofs.run.reply_to.Goals as goal
+use Rattle.vc_cli.proofs.IssuedProofs.{keeps_self, keeps_same}
 
 -- ---- the word `issue`
 
@@ -66,7 +67,7 @@ pub returns-clause-signs : goal.returns-clause-signs
 returns-clause-signs g c = c.reply_alone.ensures.signs (g.D.KeyDevice.means c.args.device.now)
 
 pub returns-clause-keeps : goal.returns-clause-keeps
-returns-clause-keeps g c = keeps_itself (g.D.KeyDevice.means c.args.device.now)
+returns-clause-keeps g c = keeps_self (g.D.KeyDevice.means c.args.device.now)
 
 pub returns-clause-only_checks : goal.returns-clause-only_checks
 returns-clause-only_checks g c = λ v. absurd ((not_told (IsVerifyCommand c.args.words.now) _ c.if-is_word-2.false c.is_word-2.ensures) v)
