@@ -1,6 +1,7 @@
 """What the scripts of this folder share: the documents that they make, how the program is built and timed."""
 import os
 import pathlib
+import shutil
 import subprocess
 import sys
 import tempfile
@@ -26,6 +27,26 @@ def build_program():
     done = subprocess.run(asked, stdin=subprocess.DEVNULL, stdout=subprocess.DEVNULL)
     if not PROGRAM.exists():
         sys.exit(f"bench: the program was not built ({done.returncode})")
+
+
+def build_with(copy, name, uses, program):
+    """Makes a copy of the repository with a further crate of this one source file, which uses these crates, proves and
+    builds it there, and gives its program."""
+    copy.mkdir(parents=True, exist_ok=True)
+    ignored = shutil.ignore_patterns("out", ".git")
+    shutil.copytree(TOP / "crates", copy / "crates", ignore=ignored, dirs_exist_ok=True)
+    (copy / "crates.txt").write_text((TOP / "crates.txt").read_text() + f"\n{name}: {uses}\n")
+    if (TOP / "HANDLES").exists():
+        shutil.copy(TOP / "HANDLES", copy / "HANDLES")
+    source = copy / "crates" / name / "src"
+    source.mkdir(parents=True, exist_ok=True)
+    shutil.copy(program, source / "main.rt")
+    built = source.parent / "out" / name
+    if not built.exists():
+        subprocess.run(["rt", "run"], cwd=source.parent, stdin=subprocess.DEVNULL, stdout=sys.stderr)
+    if not built.exists():
+        sys.exit(f"bench: {name} was not built")
+    return built
 
 
 def timed(program, words, data, runs):

@@ -12,6 +12,8 @@ mod memory;
 mod sequence;
 mod shared;
 mod sorted;
+#[cfg(test)]
+mod tests;
 mod text;
 
 pub use memory::Memory;

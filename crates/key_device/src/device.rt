@@ -7,6 +7,7 @@ ghost use Rattle.key_device.specs.Devices.{DeviceMeaning, CountsFault, MeansSame
 use crate::keys::{KeyName, Signature};
 use base_types::{Memory, Sequence};
 use std::alloc::{AllocError, AllocFailed};
+use std::fmt;
 
 /// One signature that a device made: the key, the bytes that were signed, and the signature.
 #[derive(Debug, Drop)]
@@ -25,6 +26,16 @@ pub enum DeviceError {
     NoKey,
     /// Out of memory.
     Memory,
+}
+
+impl fmt::Display for DeviceError {
+    fn fmt<W: fmt::Write>(&self, f: &mut fmt::Formatter<W>) -> fmt::Result {
+        match self {
+            DeviceError::Failed => f.write_str("the key device failed"),
+            DeviceError::NoKey => f.write_str("the key device does not own the key"),
+            DeviceError::Memory => f.write_str("out of memory"),
+        }
+    }
 }
 
 impl From<Memory> for DeviceError {

@@ -2,6 +2,7 @@
 
 use base_types::Memory;
 use std::alloc::AllocFailed;
+use std::fmt;
 
 /// Why a request gives no statements.
 #[derive(Clone, Copy, Debug, PartialEq, Eq)]
@@ -10,6 +11,15 @@ pub enum FlatFault {
     NotBuilt,
     /// Out of memory.
     Memory,
+}
+
+impl fmt::Display for FlatFault {
+    fn fmt<W: fmt::Write>(&self, f: &mut fmt::Formatter<W>) -> fmt::Result {
+        match self {
+            FlatFault::NotBuilt => f.write_str("the request is not flat"),
+            FlatFault::Memory => f.write_str("out of memory"),
+        }
+    }
 }
 
 impl From<Memory> for FlatFault {

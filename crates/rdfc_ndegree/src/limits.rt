@@ -3,6 +3,7 @@ ghost use Rattle.std.specs.Prelude.{◌≡◌};
 
 use base_types::{Memory, Sequence, Text};
 use std::alloc::AllocFailed;
+use std::fmt;
 
 /// How many arrangements may be evaluated, and how many n-degree calls may be open at once.
 #[derive(Clone, Copy, Debug, PartialEq, Eq)]
@@ -27,6 +28,16 @@ pub enum CanonFault {
     TooDeep(u64),
     /// Out of memory.
     Memory,
+}
+
+impl fmt::Display for CanonFault {
+    fn fmt<W: fmt::Write>(&self, f: &mut fmt::Formatter<W>) -> fmt::Result {
+        match self {
+            CanonFault::TooMuchWork(most) => write!(f, "more than {most} arrangements would be evaluated"),
+            CanonFault::TooDeep(most) => write!(f, "more than {most} calls would be open at once"),
+            CanonFault::Memory => f.write_str("out of memory"),
+        }
+    }
 }
 
 impl From<Memory> for CanonFault {

@@ -2,6 +2,7 @@
 
 use base_types::{Sequence, Text};
 use key_device::KeyName;
+use std::fmt;
 
 /// Which dataset a refusal speaks of.
 #[derive(Clone, Copy, Debug, PartialEq, Eq)]
@@ -50,6 +51,34 @@ pub enum Cause {
     /// The signature of this statement is not accepted, and those before it are; counted from 0
     /// among the statements that are not mandatory.
     StatementSignature(u64),
+}
+
+impl fmt::Display for Cause {
+    fn fmt<W: fmt::Write>(&self, f: &mut fmt::Formatter<W>) -> fmt::Result {
+        match self {
+            Cause::Nothing => f.write_str("the document has no statement"),
+            Cause::Labels(number) => write!(f, "the label map is not one-to-one at {number}"),
+            Cause::Indexes(place) => {
+                write!(f, "the mandatory index at place {place} is no statement's")
+            }
+            Cause::Count {
+                signatures,
+                statements,
+            } => write!(
+                f,
+                "{signatures} signatures stand for {statements} statements that are not mandatory"
+            ),
+            Cause::Expired { expires, moment } => {
+                let expires = expires.as_str();
+                let moment = moment.as_str();
+                write!(f, "the proof expired at {expires}, before {moment}")
+            }
+            Cause::BaseSignature => f.write_str("the issuer's signature is not accepted"),
+            Cause::StatementSignature(place) => {
+                write!(f, "the signature of the statement at place {place} is not accepted")
+            }
+        }
+    }
 }
 
 /// What was signed with one base proof: the issuer's key, the statement key, and the canonical

@@ -4,6 +4,7 @@ ghost use Rattle.base_types.specs.Counts.{HasRisen};
 ghost use Rattle.vc_io.specs.Bytes.{SinkMeaning, Wrote, WrotePrefix};
 
 use crate::source::Failed;
+use std::fmt;
 
 /// What takes bytes.
 pub trait Sink {
@@ -25,6 +26,12 @@ pub trait Sink {
 /// A write failed before all bytes were taken. The sink's count of faults rose.
 #[derive(Clone, Copy, Debug, PartialEq, Eq)]
 pub struct WriteFailed;
+
+impl fmt::Display for WriteFailed {
+    fn fmt<W: fmt::Write>(&self, f: &mut fmt::Formatter<W>) -> fmt::Result {
+        f.write_str("a write failed")
+    }
+}
 
 impl From<Failed> for WriteFailed {
     fn from(_failed: Failed) -> WriteFailed {

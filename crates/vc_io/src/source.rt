@@ -5,6 +5,7 @@ ghost use Rattle.base_types.specs.Counts.{HasRisen};
 ghost use Rattle.vc_io.specs.Bytes.{SourceMeaning, Gave, GaveAll, GaveFirst, IsAllOf, IsMoreThan};
 
 use std::alloc::{AllocError, Global};
+use std::fmt;
 
 /// How many bytes `read_all` asks a source for at once, at most: what a pipe holds.
 const PIECE: usize = 65_536;
@@ -12,6 +13,12 @@ const PIECE: usize = 65_536;
 /// A read or a write failed. The count of faults of its source or sink rose.
 #[derive(Clone, Copy, Debug, PartialEq, Eq)]
 pub struct Failed;
+
+impl fmt::Display for Failed {
+    fn fmt<W: fmt::Write>(&self, f: &mut fmt::Formatter<W>) -> fmt::Result {
+        f.write_str("a read or a write failed")
+    }
+}
 
 /// What gives bytes.
 pub trait Source {
@@ -38,6 +45,16 @@ pub enum ReadAllFault {
     TooLong(u64),
     /// Out of memory.
     Memory,
+}
+
+impl fmt::Display for ReadAllFault {
+    fn fmt<W: fmt::Write>(&self, f: &mut fmt::Formatter<W>) -> fmt::Result {
+        match self {
+            ReadAllFault::Failed => f.write_str("a read failed"),
+            ReadAllFault::TooLong(most) => write!(f, "there are more than {most} bytes"),
+            ReadAllFault::Memory => f.write_str("out of memory"),
+        }
+    }
 }
 
 impl From<Failed> for ReadAllFault {
