@@ -12,3 +12,4 @@ pub mod RoundTrip
 pub mod Kept
 pub mod Elements
 pub mod Versionless
+pub mod Sameness
