@@ -13,3 +13,5 @@ pub mod Kept
 pub mod Elements
 pub mod Versionless
 pub mod Sameness
+pub mod MemberChanges
+pub mod MemberLooks

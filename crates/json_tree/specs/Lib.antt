@@ -5,3 +5,4 @@ pub mod Reads
 pub mod Prints
 pub mod Internal
 pub mod Equality
+pub mod Members

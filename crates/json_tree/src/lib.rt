@@ -8,7 +8,9 @@
 
 mod comparing;
 mod copying;
+pub mod laws;
 mod looking;
+mod members;
 mod misplaced;
 mod nesting;
 mod place;
