@@ -216,17 +216,19 @@ is_lawful-with_members change t lawful keeps = by_level (out-Tree t) refl
 
 -- ---- the value at a name
 
--- of the first member, or of the later ones
+-- that of the first member
 pub value-this : (key : List ℕ) (m : Member Tree) (ms : List (Member Tree)) → bytes_eq m.key key ≡ true → value_of key (m ∷ ms) ≡ Some m.value
 value-this key m ms h = rw h
 
+-- or of a later one
 pub value-other : (key : List ℕ) (m : Member Tree) (ms : List (Member Tree)) → bytes_eq m.key key ≡ false → value_of key (m ∷ ms) ≡ value_of key ms
 value-other key m ms h = rw h
 
--- without the member of that name, and without none
+-- the first member goes
 pub without-it : (besides : List ℕ) (m : Member Tree) (ms : List (Member Tree)) → bytes_eq m.key besides ≡ true → without_key besides (m ∷ ms) ≡ without_key besides ms
 without-it besides m ms h = rw h
 
+-- or it stays
 pub without-other : (besides : List ℕ) (m : Member Tree) (ms : List (Member Tree)) → bytes_eq m.key besides ≡ false → without_key besides (m ∷ ms) ≡ m ∷ without_key besides ms
 without-other besides m ms h = rw h
 

@@ -28,11 +28,13 @@ child_stays change name t stays = child_of_changed change name t ∙ go (members
 
 -- ---- a member put in
 
+-- the value that was put in stands at its name
 pub put_stands : (key : List ℕ) (value t : Tree) (ms : List (Member Tree)) → members_of t ≡ Some ms → look (Key key ∷ []) (with_member key value t) ≡ Some value
 put_stands key value t ms is =
     let m = new_member key value in
     look-one (with_member key value t) (Key key) ∙ child_of_changed (put_member m) key t ∙ ap (λ o. option_and_then (value_of key) (option_map (put_member m) o)) is ∙ value_put m ms
 
+-- and whatever is not under that name stays
 pub put_leaves_others : (key other : List ℕ) (value t : Tree) (steps : List Step) → (key ≡ other → ⊥) → look (Key other ∷ steps) (with_member key value t) ≡ look (Key other ∷ steps) t
 put_leaves_others key other value t steps apart =
     let m = new_member key value in
@@ -40,6 +42,7 @@ put_leaves_others key other value t steps apart =
 
 -- ---- a member taken out
 
+-- nothing stands at or under a name that was taken out
 pub taken_gone : (key : List ℕ) (t : Tree) (steps : List Step) → look (Key key ∷ steps) (without key t) ≡ None
 taken_gone key t steps = ap (option_and_then (look steps)) (child_of_changed (without_key key) key t ∙ go (members_of t))
   where
@@ -47,6 +50,7 @@ taken_gone key t steps = ap (option_and_then (look steps)) (child_of_changed (wi
     go None = refl
     go (Some ms) = value_gone key ms
 
+-- and whatever is not under that name stays
 pub taken_leaves_others : (key other : List ℕ) (t : Tree) (steps : List Step) → (key ≡ other → ⊥) → look (Key other ∷ steps) (without key t) ≡ look (Key other ∷ steps) t
 taken_leaves_others key other t steps apart =
     ap (option_and_then (look steps)) (child_stays (without_key key) other t (λ ms. value_stays key other ms (λ e. apart (sym e))))
@@ -62,6 +66,7 @@ put_taken m (n ∷ ns) none =
     let differs : bytes_eq n.key m.key ≡ false = bytes_eq-false n.key m.key (λ s. bytes_eq-differ m.key n.key e (sym s)) in
     without-other m.key n (put_member m ns) differs ∙ ap (λ ks. n ∷ ks) (put_taken m ns (sym (value-other m.key n ns differs) ∙ none)))
 
+-- so a member that was put in where none stood is taken out again
 pub put_undone : (key : List ℕ) (value t : Tree) (ms : List (Member Tree)) → members_of t ≡ Some ms → look (Key key ∷ []) t ≡ None → without key (with_member key value t) ≡ t
 put_undone key value t ms of none =
     let m = new_member key value in

@@ -11,8 +11,7 @@ use Rattle.json_tree.specs.declared.tree.Item.{Item}
 use Rattle.json_tree.specs.declared.tree.Member.{Member}
 use Rattle.json_tree.specs.declared.place.Place.{Place}
 use Rattle.json_tree.specs.declared.place.Step.{Step}
-use Rattle.json_tree.specs.contracts.place.Step as step
-use Rattle.json_tree.specs.Equality.{same_by, same_by-Decides}
+use Rattle.json_tree.specs.Equality.{step_code, same_by, same_by-Decides}
 
 -- lists are the same where their elements are
 pub List-injective : (is js : List (Item Tree)) → v.List is ≡ v.List js → is ≡ js
@@ -33,9 +32,9 @@ pub is_the_test : {A : Type 0} (coded : Coded A) (b : Bool) (x y : A) → Decide
 is_the_test coded b x y d = one_answer b (same_by coded x y) d (same_by-Decides coded x y)
 
 -- places are the same where their steps are
-pub same_steps_place : (p q : Place) (b : Bool) → b ≡ pointwise (same_by step.the_row.coded) p.steps q.steps → Decides b (p ≡ q)
-same_steps_place p q b is =
-    let d = slice_eq-Decides (same_by-Decides step.the_row.coded) p.steps q.steps b is in
+pub same_place_by_steps : (p q : Place) (b : Bool) → b ≡ pointwise (same_by step_code) p.steps q.steps → Decides b (p ≡ q)
+same_place_by_steps p q b is =
+    let d = slice_eq-Decides (same_by-Decides step_code) p.steps q.steps b is in
     (λ e. ap (λ (steps : List Step). let place : Place = record { steps = steps } in place) (d.0 e), λ e. d.1 (ap (λ (place : Place). place.steps) e))
 
 pub ruleset same_steps = (List-injective, Object-injective)

@@ -5,6 +5,12 @@ use Rattle.std.specs.Cmp.{IsEquivalence, IsPartialEquivalence, decided, partial_
 use mathlib.Core.Path.{sym, ap}
 use mathlib.Core.Bool.{true≢false}
 use base.Stored.{Coded, Gv, gnil, gnum, gcons}
+use Rattle.json_tree.specs.declared.tree.Tree.{Tree}
+use Rattle.json_tree.specs.declared.place.Step.{Step}
+use Rattle.json_tree.specs.declared.place.Place.{Place}
+use Rattle.json_tree.specs.contracts.tree.Tree as tree
+use Rattle.json_tree.specs.contracts.place.Step as step
+use Rattle.json_tree.specs.contracts.place.Place as place
 
 -- codes of values, part by part
 abbrev pub same_code : Gv → Gv → Bool
@@ -16,6 +22,16 @@ same_code a b = false
 -- Whether values of a type are the same, by the code that tells its values apart.
 pub same_by : {A : Type 0} → Coded A → A → A → Bool
 same_by coded x y = same_code (coded.code x) (coded.code y)
+
+-- the codes of trees, of steps and of places: each is the one that the kit makes of the type
+abbrev pub tree_code : Coded Tree
+tree_code = tree.the_row.coded
+
+abbrev pub step_code : Coded Step
+step_code = step.the_row.coded
+
+abbrev pub place_code : Coded Place
+place_code = place.the_row.coded
 
 -- ---- the test decides equality
 
@@ -50,6 +66,7 @@ and_true : (x y : Bool) → x ≡ true → y ≡ true → (x && y) ≡ true
 and_true true y p q = q
 and_true false y p q = p
 
+-- codes that pass the test are the same code, and no others
 pub same_code-Decides : (a b : Gv) → Decides (same_code a b) (a ≡ b)
 same_code-Decides gnil gnil = (λ e. refl, λ e. refl)
 same_code-Decides gnil (gnum n) = apart (λ e. ap is_nil e)
@@ -70,15 +87,17 @@ same_code-Decides (gcons a b) (gcons c d) =
       λ e. and_true (same_code a c) (same_code b d) (here.1 (ap first e)) (there.1 (ap second e)),
     )
 
+-- and values the same value
 pub same_by-Decides : {A : Type 0} (coded : Coded A) (x y : A) → Decides (same_by coded x y) (x ≡ y)
 unfolding same_by
 same_by-Decides coded x y =
     let d = same_code-Decides (coded.code x) (coded.code y) in
     (λ e. coded.inj x y (d.0 e), λ e. d.1 (ap coded.code e))
 
--- so it is an equivalence, as `Eq` and `PartialEq` want
+-- So the test is an equivalence, as `Eq` wants.
 pub same_by-equivalence : {A : Type 0} (coded : Coded A) → IsEquivalence (same_by coded)
 same_by-equivalence coded = decided (same_by coded) (same_by-Decides coded)
 
+-- And a partial one, as `PartialEq` wants.
 pub same_by-partial : {A : Type 0} (coded : Coded A) → IsPartialEquivalence (same_by coded)
 same_by-partial coded = partial_equiv_from_equiv (same_by-equivalence coded)

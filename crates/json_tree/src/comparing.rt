@@ -7,16 +7,15 @@ use crate::tree::{Item, Member, Tree};
 
 impl PartialEq for Tree {
     ghost use Rattle.std.specs.Prelude.{◌≡◌, ◌↔◌, IsTrue};
-    ghost use Rattle.json_tree.specs.contracts.tree.Tree as is;
-    ghost use Rattle.json_tree.specs.Equality.{same_by, same_by-partial};
+    ghost use Rattle.json_tree.specs.Equality.{tree_code, same_by, same_by-partial};
 
-    ghost eq = { same_by is.the_row.coded };
+    ghost eq = { same_by tree_code };
 
-    ghost laws = { same_by-partial is.the_row.coded };
+    ghost laws = { same_by-partial tree_code };
 
     /// Whether the trees are the same, the indexes of their elements too.
     fn eq(&self, other: &Tree) -> bool
-        ensures value { result ≡ same_by is.the_row.coded self.now other.now }
+        ensures value { result ≡ same_by tree_code self.now other.now }
         ensures exact { IsTrue result ↔ (self.now ≡ other.now) }
     {
         same_trees(self, other)
@@ -24,12 +23,12 @@ impl PartialEq for Tree {
 }
 
 impl Eq for Tree {
-    ghost use Rattle.json_tree.specs.contracts.tree.Tree as is;
-    ghost use Rattle.json_tree.specs.Equality.{same_by-equivalence};
+    ghost use Rattle.json_tree.specs.Equality.{tree_code, same_by-equivalence};
 
-    ghost laws = { same_by-equivalence is.the_row.coded };
+    ghost laws = { same_by-equivalence tree_code };
 }
 
+/// Whether the trees are the same.
 #[cycle(same)]
 #[tactic(auto, using(crate::proofs::Sameness::same_steps))]
 fn same_trees(a: &Tree, b: &Tree) -> bool
@@ -79,6 +78,7 @@ fn same_members(a: &[Member], b: &[Member]) -> bool
     true
 }
 
+/// Whether the steps are the same.
 fn same_steps(a: &Step, b: &Step) -> bool
     ensures { IsTrue result ↔ (a.now ≡ b.now) }
 {
@@ -91,16 +91,15 @@ fn same_steps(a: &Step, b: &Step) -> bool
 
 impl PartialEq for Step {
     ghost use Rattle.std.specs.Prelude.{◌≡◌, ◌↔◌, IsTrue};
-    ghost use Rattle.json_tree.specs.contracts.place.Step as is;
-    ghost use Rattle.json_tree.specs.Equality.{same_by, same_by-partial};
+    ghost use Rattle.json_tree.specs.Equality.{step_code, same_by, same_by-partial};
 
-    ghost eq = { same_by is.the_row.coded };
+    ghost eq = { same_by step_code };
 
-    ghost laws = { same_by-partial is.the_row.coded };
+    ghost laws = { same_by-partial step_code };
 
     /// Whether the steps are the same.
     fn eq(&self, other: &Step) -> bool
-        ensures value { result ≡ same_by is.the_row.coded self.now other.now }
+        ensures value { result ≡ same_by step_code self.now other.now }
         ensures exact { IsTrue result ↔ (self.now ≡ other.now) }
     {
         same_steps(self, other)
@@ -108,24 +107,22 @@ impl PartialEq for Step {
 }
 
 impl Eq for Step {
-    ghost use Rattle.json_tree.specs.contracts.place.Step as is;
-    ghost use Rattle.json_tree.specs.Equality.{same_by-equivalence};
+    ghost use Rattle.json_tree.specs.Equality.{step_code, same_by-equivalence};
 
-    ghost laws = { same_by-equivalence is.the_row.coded };
+    ghost laws = { same_by-equivalence step_code };
 }
 
 impl PartialEq for Place {
     ghost use Rattle.std.specs.Prelude.{◌≡◌, ◌↔◌, IsTrue};
-    ghost use Rattle.json_tree.specs.contracts.place.Place as is;
-    ghost use Rattle.json_tree.specs.Equality.{same_by, same_by-partial};
+    ghost use Rattle.json_tree.specs.Equality.{place_code, same_by, same_by-partial};
 
-    ghost eq = { same_by is.the_row.coded };
+    ghost eq = { same_by place_code };
 
-    ghost laws = { same_by-partial is.the_row.coded };
+    ghost laws = { same_by-partial place_code };
 
     /// Whether the places are the same.
     fn eq(&self, other: &Place) -> bool
-        ensures value { result ≡ same_by is.the_row.coded self.now other.now }
+        ensures value { result ≡ same_by place_code self.now other.now }
         ensures exact { IsTrue result ↔ (self.now ≡ other.now) }
     {
         self.steps == other.steps
@@ -133,8 +130,7 @@ impl PartialEq for Place {
 }
 
 impl Eq for Place {
-    ghost use Rattle.json_tree.specs.contracts.place.Place as is;
-    ghost use Rattle.json_tree.specs.Equality.{same_by-equivalence};
+    ghost use Rattle.json_tree.specs.Equality.{place_code, same_by-equivalence};
 
-    ghost laws = { same_by-equivalence is.the_row.coded };
+    ghost laws = { same_by-equivalence place_code };
 }
