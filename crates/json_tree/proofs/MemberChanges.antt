@@ -1,6 +1,6 @@
 -- Members without one of them, and with one put in: what they hold, and that they stay lawful and well formed.
-use Rattle.std.proofs.Common.{◌≡◌, ◌<◌, ◌≤◌, ℕ, zero, suc, ◌+◌, Bool, true, false, not, List, [], ◌∷◌, ◌++◌, length, take, drop, set, get_or, filter, Option, Some, None, option_map, option_and_then, Ordering, Less, Equal, Greater, inl, inr, refl, sym, ap, ◌∙◌, subst, arith}
-use Rattle.std.specs.List.{list_all, remove, HoldsAt, AllWithin}
+use Rattle.std.proofs.Common.{◌≡◌, ◌<◌, ◌≤◌, ℕ, zero, suc, Bool, true, false, not, List, [], ◌∷◌, ◌++◌, length, take, drop, set, get_or, filter, Some, None, option_map, Ordering, Less, Equal, Greater, inl, inr, refl, sym, ap, ◌∙◌, subst, arith}
+use Rattle.std.specs.List.{list_all, remove, HoldsAt}
 use Rattle.std.specs.List.Sorted.{IsPartitionPoint}
 use Rattle.std.specs.Str.{bytes_eq}
 use Rattle.std.specs.Ordering.{nat_cmp, is_lt, is_eq, ordering_reverse}
@@ -8,19 +8,17 @@ use Rattle.std.specs.Cmp.Lexicographic.{slice_cmp}
 use Rattle.std.proofs.lemmas.Bool.{cases_Bool, and_parts, and_from}
 use Rattle.std.proofs.lemmas.Cmp.{nat_list_cmp_total}
 use Rattle.std.proofs.lemmas.Map.Lookups.{exact_bytes}
-use Rattle.std.proofs.lemmas.Option.{same_Some}
-use Rattle.base_types.proofs.Orders.{text_cmp, bytes_eq-cmp, bytes_eq-true, bytes_eq-same, bytes_eq-false, bytes_eq-differ, is_before-transitive, is_before-differs, is_before-other_way}
+use Rattle.base_types.proofs.Orders.{bytes_eq-cmp, bytes_eq-true, bytes_eq-same, bytes_eq-false, bytes_eq-differ, is_before-transitive, is_before-differs, is_before-other_way}
 use Rattle.base_types.proofs.Searching.{each_next-tail}
 use Rattle.json_tree.specs.declared.tree.Tree.{Tree, out-Tree}
 use Rattle.json_tree.specs.declared.tree.Tree.TheOpen.{Tree-F}
 use Rattle.json_tree.specs.declared.tree.Tree.TheVariants as v
 use Rattle.json_tree.specs.declared.tree.Member.{Member}
-use Rattle.json_tree.specs.declared.place.Step.{Step}
 use Rattle.json_tree.specs.declared.place.Step.TheVariants.{Key}
-use Rattle.json_tree.specs.Trees.{new_member, each_next, is_before, is_lawful, is_in_range, AreLawful}
+use Rattle.json_tree.specs.Trees.{is_before, is_lawful, is_in_range, AreLawful}
 use Rattle.json_tree.specs.Places.{members_in, members_of, value_of, misplaced, is_version_key, below, or_else}
 use Rattle.json_tree.specs.Internal.Misplaced.{first_in_members}
-use Rattle.json_tree.specs.Members.{with_members_in, with_members, without_key, without, put_member, with_member}
+use Rattle.json_tree.specs.Members.{with_members_in, with_members, without_key, put_member}
 use Rattle.json_tree.specs.WellFormed.{IsWellFormed}
 use Rattle.json_tree.proofs.Rising.{NamesRise, first_is_before}
 use Rattle.json_tree.proofs.TreeLemmas.{is_lawful-Object, members_of-Object, members_of-Some}

@@ -1,5 +1,5 @@
 -- What look-up finds in objects with a member put in or taken out.
-use Rattle.std.proofs.Common.{◌≡◌, ℕ, true, false, List, [], ◌∷◌, Option, Some, None, option_map, option_and_then, refl, sym, ap, ◌∙◌}
+use Rattle.std.proofs.Common.{◌≡◌, ℕ, false, List, [], ◌∷◌, Option, Some, None, option_map, option_and_then, refl, sym, ap, ◌∙◌}
 use Rattle.std.specs.Str.{bytes_eq}
 use Rattle.base_types.proofs.Orders.{bytes_eq-true, bytes_eq-same, bytes_eq-false, bytes_eq-differ}
 use Rattle.json_tree.specs.declared.tree.Tree.{Tree}
@@ -7,7 +7,7 @@ use Rattle.json_tree.specs.declared.tree.Tree.TheVariants as v
 use Rattle.json_tree.specs.declared.tree.Member.{Member}
 use Rattle.json_tree.specs.declared.place.Step.{Step}
 use Rattle.json_tree.specs.declared.place.Step.TheVariants.{Key}
-use Rattle.json_tree.specs.Trees.{new_member, is_before, is_lawful}
+use Rattle.json_tree.specs.Trees.{new_member}
 use Rattle.json_tree.specs.Places.{members_of, value_of, child_of, look}
 use Rattle.json_tree.specs.Members.{with_members, without_key, without, put_member, with_member}
 use Rattle.json_tree.proofs.TreeLemmas.{child_of-members, members_of-Some}
