@@ -12,3 +12,6 @@ pub mod RoundTrip
 pub mod Kept
 pub mod Elements
 pub mod Versionless
+pub mod Sameness
+pub mod MemberChanges
+pub mod MemberLooks

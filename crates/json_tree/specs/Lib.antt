@@ -4,3 +4,5 @@ pub mod WellFormed
 pub mod Reads
 pub mod Prints
 pub mod Internal
+pub mod Equality
+pub mod Members

@@ -6,7 +6,11 @@
 //! (`specs/Places`): what stands at the end of a list of steps, as in RFC 6901.
 #![tactic(auto)]
 
+mod comparing;
+mod copying;
+pub mod laws;
 mod looking;
+mod members;
 mod misplaced;
 mod nesting;
 mod place;

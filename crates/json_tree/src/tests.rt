@@ -1,5 +1,8 @@
 //! Documents and the trees that RFC 8259 gives them, by hand. Trees are compared as `Debug` shows them.
-use crate::{TreeFault, member, pointer_text, print, read, text_member};
+use crate::{
+    Item, Items, Place, Step, Text, Tree, TreeFault, look, member, pointer_text, print, read,
+    text_member,
+};
 use std::alloc::Global;
 use std::test::Fail;
 
@@ -187,6 +190,188 @@ fn members_are_found_by_name(rt: HostRuntime) -> Result<(), Fail> {
             assert!(rt; text_member(members, "c").is_none());
         }
         None => assert!(rt; false),
+    }
+    Ok(())
+}
+
+/// The document of RFC 6901, section 5.
+const DOCUMENT: &str =
+    "{\"foo\":[\"bar\",\"baz\"],\"\":0,\"a/b\":1,\"c%d\":2,\"e^f\":3,\"g|h\":4,\"i\\\\j\":5,\"k\\\"l\":6,\" \":7,\"m~n\":8}";
+
+/// Its members in the byte order of their names.
+const WHOLE: &str =
+    "{\"\":0,\" \":7,\"a/b\":1,\"c%d\":2,\"e^f\":3,\"foo\":[\"bar\",\"baz\"],\"g|h\":4,\"i\\\\j\":5,\"k\\\"l\":6,\"m~n\":8}";
+
+/// The pointers of that section below one name, with the values that it gives them.
+const POINTERS: [(&str, &str, &str); 10] = [
+    ("foo", "/foo", "[\"bar\",\"baz\"]"),
+    ("", "/", "0"),
+    ("a/b", "/a~1b", "1"),
+    ("c%d", "/c%d", "2"),
+    ("e^f", "/e^f", "3"),
+    ("g|h", "/g|h", "4"),
+    ("i\\j", "/i\\j", "5"),
+    ("k\"l", "/k\"l", "6"),
+    (" ", "/ ", "7"),
+    ("m~n", "/m~0n", "8"),
+];
+
+/// Whether the place has this pointer, and the value there this text.
+fn leads_to(
+    alloc: Global,
+    document: &str,
+    place: &Place,
+    pointer: &str,
+    value: &str,
+) -> Result<bool, Fail> {
+    let tree = read(alloc, document.as_bytes())?;
+    let text = pointer_text(alloc, place)?;
+    match look(&tree, place.steps.as_slice()) {
+        Some(found) => {
+            let printed = print(alloc, found)?;
+            Ok(text.as_str() == pointer && printed.as_slice() == value.as_bytes())
+        }
+        None => Ok(false),
+    }
+}
+
+#[test]
+fn pointers_lead_below_one_name(rt: HostRuntime) -> Result<(), Fail> {
+    for (name, pointer, value) in POINTERS {
+        let mut place = Place::root(rt.alloc());
+        place.push(Step::Key(Text::from_str(rt.alloc(), name)?))?;
+        assert!(rt; leads_to(rt.alloc(), DOCUMENT, &place, pointer, value)?);
+    }
+    Ok(())
+}
+
+#[test]
+fn pointers_lead_to_the_whole_and_to_an_element(rt: HostRuntime) -> Result<(), Fail> {
+    let mut place = Place::root(rt.alloc());
+    assert!(rt; leads_to(rt.alloc(), DOCUMENT, &place, "", WHOLE)?);
+    place.push(Step::Key(Text::from_str(rt.alloc(), "foo")?))?;
+    place.push(Step::At(0))?;
+    assert!(rt; leads_to(rt.alloc(), DOCUMENT, &place, "/foo/0", "\"bar\"")?);
+    Ok(())
+}
+
+#[test]
+fn a_place_is_gone_back_and_on(rt: HostRuntime) -> Result<(), Fail> {
+    let mut place = Place::root(rt.alloc());
+    place.push(Step::Key(Text::from_str(rt.alloc(), "foo")?))?;
+    let mut further = Place::root(rt.alloc());
+    further.push(Step::At(1))?;
+    let joined = place.then(rt.alloc(), &further)?;
+    assert!(rt; leads_to(rt.alloc(), DOCUMENT, &joined, "/foo/1", "\"baz\"")?);
+    place.push(Step::At(1))?;
+    assert!(rt; place == joined);
+    assert!(rt; place != further);
+    assert!(rt; place.pop() == Some(Step::At(1)));
+    assert!(rt; place.pop() == Some(Step::Key(Text::from_str(rt.alloc(), "foo")?)));
+    assert!(rt; place.pop() == None);
+    Ok(())
+}
+
+/// Documents, each equal to itself alone.
+const APART: [&str; 12] = [
+    "null",
+    "false",
+    "true",
+    "1",
+    "\"1\"",
+    "[]",
+    "[1]",
+    "[1,1]",
+    "{}",
+    "{\"a\":1}",
+    "{\"a\":2}",
+    "{\"b\":1}",
+];
+
+/// Whether the trees of two texts are equal.
+fn are_equal(alloc: Global, text: &str, other: &str) -> Result<bool, Fail> {
+    let tree = read(alloc, text.as_bytes())?;
+    let copy = read(alloc, other.as_bytes())?.copy(alloc)?;
+    Ok(tree == copy)
+}
+
+#[test]
+fn trees_equal_their_copies_and_no_others(rt: HostRuntime) -> Result<(), Fail> {
+    for i in 0..APART.len() {
+        for j in 0..APART.len() {
+            let equal = are_equal(rt.alloc(), APART[i], APART[j])?;
+            assert_eq!(rt; equal, i == j, "{i} and {j}");
+        }
+    }
+    assert!(rt;
+        are_equal(
+            rt.alloc(),
+            "{\"b\":[1],\"a\":{}}",
+            "{ \"a\" : {}, \"b\" : [ 1 ] }"
+        )?
+    );
+    assert!(rt; !are_equal(rt.alloc(), "{\"@version\":1.1}", "{\"@version\":1}")?);
+    Ok(())
+}
+
+/// A list of one element, with this index.
+fn one_element(alloc: Global, at: u64) -> Result<Tree, Fail> {
+    let mut items = Items::new(alloc);
+    items.push(Item {
+        at,
+        value: Tree::Null,
+    })?;
+    Ok(Tree::List(items))
+}
+
+#[test]
+fn indexes_count_and_are_copied(rt: HostRuntime) -> Result<(), Fail> {
+    let tree = one_element(rt.alloc(), 7)?;
+    assert!(rt; tree == one_element(rt.alloc(), 7)?);
+    assert!(rt; tree != one_element(rt.alloc(), 0)?);
+    assert!(rt; tree.copy(rt.alloc())? == tree);
+    Ok(())
+}
+
+/// A document, a name, and the document without the member of that name.
+const WITHOUT: [(&str, &str, &str); 7] = [
+    ("{\"a\":1,\"ab\":2}", "a", "{\"ab\":2}"),
+    ("{\"a\":1,\"ab\":2}", "ab", "{\"a\":1}"),
+    ("{\"a\":1,\"ab\":2}", "b", "{\"a\":1,\"ab\":2}"),
+    ("{\"a\":1,\"ab\":2}", "", "{\"a\":1,\"ab\":2}"),
+    ("{\"\":1}", "", "{}"),
+    ("{}", "a", "{}"),
+    ("[{\"a\":1}]", "a", "[{\"a\":1}]"),
+];
+
+#[test]
+fn a_member_is_taken_out_by_its_whole_name(rt: HostRuntime) -> Result<(), Fail> {
+    for (text, name, expected) in WITHOUT {
+        let tree = read(rt.alloc(), text.as_bytes())?.without(name);
+        assert!(rt; tree == read(rt.alloc(), expected.as_bytes())?);
+    }
+    Ok(())
+}
+
+/// A document, a name, and the document with 0 at that name.
+const WITH: [(&str, &str, &str); 8] = [
+    ("{\"b\":1,\"d\":2}", "a", "{\"a\":0,\"b\":1,\"d\":2}"),
+    ("{\"b\":1,\"d\":2}", "c", "{\"b\":1,\"c\":0,\"d\":2}"),
+    ("{\"b\":1,\"d\":2}", "e", "{\"b\":1,\"d\":2,\"e\":0}"),
+    ("{\"b\":1,\"d\":2}", "b", "{\"b\":0,\"d\":2}"),
+    ("{\"b\":1,\"d\":2}", "d", "{\"b\":1,\"d\":0}"),
+    ("{\"b\":1,\"d\":2}", "ba", "{\"b\":1,\"ba\":0,\"d\":2}"),
+    ("{}", "a", "{\"a\":0}"),
+    ("[1]", "a", "[1]"),
+];
+
+#[test]
+fn a_member_is_put_in_at_its_place(rt: HostRuntime) -> Result<(), Fail> {
+    for (text, name, expected) in WITH {
+        let key = Text::from_str(rt.alloc(), name)?;
+        let object = read(rt.alloc(), text.as_bytes())?;
+        let tree = object.with_member(rt.alloc(), key, Tree::Whole(0))?;
+        assert!(rt; tree == read(rt.alloc(), expected.as_bytes())?);
     }
     Ok(())
 }

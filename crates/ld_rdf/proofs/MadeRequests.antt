@@ -5,29 +5,31 @@ use Rattle.json_tree.specs.declared.tree.Tree.TheVariants as v
 use Rattle.json_tree.specs.declared.tree.Member.{Member}
 use Rattle.json_tree.specs.Trees.{new_member, is_lawful}
 use Rattle.json_tree.specs.Places.{members_of}
+use Rattle.json_tree.proofs.Rising.{both_hold}
+use Rattle.json_tree.proofs.MemberChanges.{without_lawful, put_lawful, members_of-with_members, lawful_object, is_lawful-with_members}
 use Rattle.json_tree.proofs.TreeLemmas.{is_lawful-Text, members_of-Object}
 use Rattle.nquads.specs.Terms.{Statement}
 use Rattle.ld_rdf.specs.Flat.{at_context, at_id}
-use Rattle.ld_rdf.specs.Reduced.{without_key, without, put_member, statements_request, with_context}
+use Rattle.json_tree.specs.Members.{without_key, without, put_member}
+use Rattle.ld_rdf.specs.Reduced.{statements_request, with_context}
 use Rattle.ld_rdf.specs.Internal.Parts.{only_if, member_text, two_in, SuppliedContext, supplied_context, agrees, text_beside, statements_beside, statements_under, chosen_statements, reduced_statements, request_statements}
 use Rattle.ld_rdf.proofs.WholeRequests.{document_statements, flat_statements}
-use Rattle.ld_rdf.proofs.Reductions.{without_lawful, put_lawful, members_of-changed, lawful_object, is_lawful-changed, text_at-without, text_at-put, id_under_put, statements_in-without, statements_in-put, statements_beside_context}
-use Rattle.std.proofs.lemmas.Bool.{and_from}
+use Rattle.ld_rdf.proofs.Reductions.{text_at-without, text_at-put, id_under_put, statements_in-without, statements_in-put, statements_beside_context}
 
 -- ---- lawful
 
 -- a lawful tree without a member is lawful
 pub without_is_lawful : (besides : List ℕ) (t : Tree) → is_lawful t ≡ true → is_lawful (without besides t) ≡ true
-without_is_lawful besides t lawful = is_lawful-changed (without_key besides) t lawful (without_lawful besides)
+without_is_lawful besides t lawful = is_lawful-with_members (without_key besides) t lawful (without_lawful besides)
 
 -- a lawful tree that takes a context is lawful
 pub taking_is_lawful : (name : List ℕ) (t : Tree) → is_lawful t ≡ true → is_lawful (with_context name t) ≡ true
 taking_is_lawful name t lawful =
-    is_lawful-changed (put_member (new_member at_context (v.Text name))) t lawful (λ ms l. put_lawful (new_member at_context (v.Text name)) ms (is_lawful-Text name) l)
+    is_lawful-with_members (put_member (new_member at_context (v.Text name))) t lawful (λ ms l. put_lawful (new_member at_context (v.Text name)) ms (is_lawful-Text name) l)
 
 -- the request that is made of two lawful trees is lawful
 pub request_is_lawful : (contexts t : Tree) → is_lawful contexts ≡ true → is_lawful t ≡ true → is_lawful (statements_request contexts t) ≡ true
-request_is_lawful contexts t one two = lawful_object _ (record { rising = refl; values = and_from (is_lawful contexts) _ one (and_from (is_lawful t) true two refl) })
+request_is_lawful contexts t one two = lawful_object _ (record { rising = refl; values = both_hold (is_lawful contexts) _ one (both_hold (is_lawful t) true two refl) })
 
 -- ---- options
 
@@ -82,7 +84,7 @@ made contexts t =
 -- the request made of a document without a member has the statements that the code reads off it
 pub document_made : (besides : List ℕ) (contexts document : Tree) → flat_statements (statements_request contexts (without besides document)) ≡ reduced_statements besides contexts document
 document_made besides contexts document =
-    let members : members_of (without besides document) ≡ option_map (without_key besides) (members_of document) = members_of-changed (without_key besides) document in
+    let members : members_of (without besides document) ≡ option_map (without_key besides) (members_of document) = members_of-with_members (without_key besides) document in
     made contexts (without besides document)
     ∙ (λ i. option_and_then (λ c. option_and_then (document_statements c) (members i)) (supplied_context contexts))
     ∙ (λ i. option_and_then (λ c. and_then-map (document_statements c) (without_key besides) (members_of document) i) (supplied_context contexts))
@@ -93,7 +95,7 @@ pub options_made : (besides name : List ℕ) (contexts options : Tree) → flat_
 options_made besides name contexts options =
     let put : List (Member Tree) → List (Member Tree) = put_member (new_member at_context (v.Text name)) in
     let members : members_of (with_context name (without besides options)) ≡ option_map put (option_map (without_key besides) (members_of options)) =
-    members_of-changed (put_member (new_member at_context (v.Text name))) (without besides options) ∙ ap (option_map (put_member (new_member at_context (v.Text name)))) (members_of-changed (without_key besides) options) in
+    members_of-with_members (put_member (new_member at_context (v.Text name))) (without besides options) ∙ ap (option_map (put_member (new_member at_context (v.Text name)))) (members_of-with_members (without_key besides) options) in
     made contexts (with_context name (without besides options))
     ∙ (λ i. option_and_then (λ c. option_and_then (document_statements c) (members i)) (supplied_context contexts))
     ∙ (λ i. option_and_then (λ c. (and_then-map (document_statements c) (put_member (new_member at_context (v.Text name))) (option_map (without_key besides) (members_of options))

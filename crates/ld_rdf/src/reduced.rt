@@ -2,10 +2,11 @@
 
 ghost use Rattle.std.specs.Prelude.{◌≡◌, true, List, map, IfOk, IsErrOf};
 ghost use Rattle.json_tree.specs.Trees.{is_lawful};
+ghost use Rattle.json_tree.specs.Members.{without};
 ghost use Rattle.nquads.specs.Terms.{Statement, IsStatement};
 ghost use Rattle.nquads.specs.Spelling.{text_quad};
 ghost use Rattle.ld_rdf.specs.Flat.{IsFlat, IsFlatMeaning, Means};
-ghost use Rattle.ld_rdf.specs.Reduced.{statements_request, with_context, without};
+ghost use Rattle.ld_rdf.specs.Reduced.{statements_request, with_context};
 
 use crate::fault::FlatFault;
 use crate::statements::{chosen_statements, reduced_statements};

@@ -6,7 +6,7 @@ use Rattle.json_tree.specs.declared.tree.Tree.{Tree}
 use Rattle.json_tree.specs.declared.tree.Tree.TheVariants as v
 use Rattle.json_tree.specs.declared.tree.Member.{Member}
 use Rattle.json_tree.specs.Trees.{new_member, is_before}
-use Rattle.ld_rdf.specs.Reduced.{put_member, with_member}
+use Rattle.json_tree.specs.Members.{put_member, with_member}
 use Rattle.vc_cli.specs.declared.draft.Slot.{Slot}
 use Rattle.vc_cli.specs.declared.draft.Draft.{Draft}
 use Rattle.vc_cli.specs.Requests.{proof_name, with_proof, value_name}

@@ -15,7 +15,8 @@ use Rattle.json_tree.proofs.Rising.{left_of, right_of}
 use Rattle.json_tree.proofs.TreeLemmas.{child_of-Object-Key, is_lawful-Text, members_lawful, members_of-Some, names_at-members}
 use Rattle.json_tree.proofs.Equations.{holds_version-Object, holds_version-Text, is_in_range-Object}
 use Rattle.ld_rdf.specs.Flat.{HasText, IsFlat, at_context, at_id, document_place}
-use Rattle.ld_rdf.specs.Reduced.{put_member, statements_request, with_context}
+use Rattle.json_tree.specs.Members.{put_member}
+use Rattle.ld_rdf.specs.Reduced.{statements_request, with_context}
 use Rattle.ld_rdf.proofs.OptionsAndLists.{option_map-Some}
 use Rattle.ld_rdf.proofs.Shapes.{members_are_lawful}
 use Rattle.ld_rdf.proofs.Meaning.{value_at_member}

@@ -14,7 +14,7 @@ use Rattle.json_tree.specs.Places.{child_of, look, members_in, members_of, text_
 use Rattle.json_tree.proofs.TreeLemmas.{child_of-members, members_lawful, members_of-Object, members_of-Some, text_of-Some, text_of-Text, look_nothing}
 use Rattle.ld_rdf.specs.Flat.{HasText, at_context}
 use Rattle.ld_rdf.specs.Internal.Parts.{only_if}
-use Rattle.ld_rdf.specs.Reduced.{with_members, with_members_in, without, without_key}
+use Rattle.json_tree.specs.Members.{with_members, with_members_in, without, without_key}
 use Rattle.ld_rdf.proofs.OptionsAndLists.{and_then-Some, provided-Some, map_or-true}
 use Rattle.vc_cli.specs.Requests.{HasShape, at, value_name}
 use Rattle.vc_cli.specs.Internal.Parts.{has_form, has_text, lacks, method_in, text_under}

@@ -13,7 +13,8 @@ use Rattle.nquads.specs.Terms.{IsStatement, Statement}
 use Rattle.nquads.specs.Spelling.{text_quad}
 use Rattle.ld_rdf.specs.Flat.{IsFlat, IsFlatMeaning, Means, at_context}
 use Rattle.ld_rdf.specs.Internal.Parts.{only_if}
-use Rattle.ld_rdf.specs.Reduced.{statements_request, with_context, without}
+use Rattle.json_tree.specs.Members.{without}
+use Rattle.ld_rdf.specs.Reduced.{statements_request, with_context}
 use Rattle.ld_rdf.proofs.OptionsAndLists.{and_then-Some, option_map-Some, provided-Some}
 use Rattle.vc_cli.specs.declared.requests.IssueRead.{IssueRead}
 use Rattle.vc_cli.specs.declared.tasks.VerifyTask.{VerifyTask}

@@ -15,7 +15,7 @@ use Rattle.json_tree.specs.Trees.{each_next, new_member, holds_version, is_befor
 use Rattle.json_tree.proofs.Rising.{NamesRise, left_of, right_of}
 use Rattle.json_tree.proofs.TreeLemmas.{is_lawful-Object, is_lawful-Text}
 use Rattle.json_tree.proofs.Equations.{is_in_range-Object, is_in_range-Text, holds_version-Object, holds_version-Text}
-use Rattle.ld_rdf.specs.Reduced.{with_members_in, put_member, with_member}
+use Rattle.json_tree.specs.Members.{with_members_in, put_member, with_member}
 use Rattle.vc_cli.specs.Internal.Drafts.{IsObject, IsPrintable, with_value_at, place_of}
 use Rattle.base_types.proofs.Orders.{is_before-differs, is_before-other_way, bytes_eq-true, bytes_eq-same}
 

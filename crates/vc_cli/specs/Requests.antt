@@ -11,7 +11,8 @@ use Rattle.json_tree.specs.Places.{look}
 use Rattle.json_tree.specs.Trees.{element, new_member}
 use Rattle.key_device.specs.declared.table.KeyEntry.{KeyEntry}
 use Rattle.ld_rdf.specs.Flat.{HasText, IsFlat, at_context}
-use Rattle.ld_rdf.specs.Reduced.{statements_request, with_context, with_member, without}
+use Rattle.json_tree.specs.Members.{with_member, without}
+use Rattle.ld_rdf.specs.Reduced.{statements_request, with_context}
 
 -- the place of a member of the root
 abbrev pub at : List ℕ → List Step

@@ -3,7 +3,7 @@
 ghost use Rattle.std.specs.Prelude.{◌≡◌, ◌≤◌, ◌<◌, List, ℕ, length, reverse, IfOk};
 ghost use Rattle.json_tree.specs.declared.tree.Tree.{Tree as AnyTree};
 ghost use Rattle.json_tree.specs.Trees.{new_member};
-ghost use Rattle.ld_rdf.specs.Reduced.{put_member, with_member};
+ghost use Rattle.json_tree.specs.Members.{put_member, with_member};
 ghost use Rattle.vc_cli.specs.Requests.{with_proof};
 ghost use Rattle.vc_cli.specs.Internal.Drafts.{IsObject, IsPrintable, document_with, is_named, object_with, place_of, with_value_at};
 

@@ -1,7 +1,8 @@
 use Rattle.std.proofs.Common.{◌≡◌, sym, ap, ◌∙◌, subst, map, Err, Option, List, option_map}
 use Rattle.nquads.specs.Terms.{Statement}
 use Rattle.nquads.specs.Spelling.{text_quad}
-use Rattle.ld_rdf.specs.Reduced.{statements_request, without, with_context}
+use Rattle.json_tree.specs.Members.{without}
+use Rattle.ld_rdf.specs.Reduced.{statements_request, with_context}
 use Rattle.ld_rdf.specs.Internal.Outcomes.{BuildsItems}
 use Rattle.ld_rdf.specs.declared.fault.FlatFault.TheVariants.{NotBuilt}
 use Rattle.ld_rdf.proofs.Answering.{flat_ok, flat_means, flat_not_built}

@@ -1,0 +1,9 @@
+use Rattle.std.proofs.Common.{◌≡◌, take}
+use Rattle.json_tree.proofs.copying.+copy.Given as goal
+
+-- the copies so far are the elements that were passed, and the members
+abbrev pub invariant-copy_items-loop-item : goal.invariant-copy_items-loop-item
+invariant-copy_items-loop-item l = l.copies ≡ take l.item-index l.items
+
+abbrev pub invariant-copy_members-loop-member : goal.invariant-copy_members-loop-member
+invariant-copy_members-loop-member l = l.copies ≡ take l.member-index l.members
