@@ -12,3 +12,8 @@ pub mod RoundTrip
 pub mod Kept
 pub mod Elements
 pub mod Versionless
+pub mod Outcomes
+pub mod Branches
+pub mod StepOrder
+pub mod SameLevels
+pub mod LeastMisplaced

@@ -1,5 +1,7 @@
 pub mod Trees
 pub mod Places
+pub mod Levels
+pub mod Misplaced
 pub mod WellFormed
 pub mod Reads
 pub mod Prints

@@ -6,6 +6,7 @@
 //! (`specs/Places`): what stands at the end of a list of steps, as in RFC 6901.
 #![tactic(auto)]
 
+pub mod laws;
 mod looking;
 mod misplaced;
 mod nesting;
