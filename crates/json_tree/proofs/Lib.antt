@@ -17,3 +17,4 @@ pub mod Branches
 pub mod StepOrder
 pub mod SameLevels
 pub mod LeastMisplaced
+pub mod OnePointer

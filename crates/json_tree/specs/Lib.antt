@@ -2,6 +2,7 @@ pub mod Trees
 pub mod Places
 pub mod Levels
 pub mod Misplaced
+pub mod Examples
 pub mod WellFormed
 pub mod Reads
 pub mod Prints

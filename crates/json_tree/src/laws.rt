@@ -1,16 +1,20 @@
 //! Laws of the definitions: each is the contract of a function that does nothing.
 
-ghost use Rattle.std.specs.Prelude.{◌≡◌, ◌++◌, ◌⊎◌, ℕ, List, true, Some, None, Result, Err, option_and_then};
+ghost use Rattle.std.specs.Prelude.{◌≡◌, ◌++◌, ◌⊎◌, ◌∷◌, [], ℕ, pos, List, codes, true, Some, None, Result, Err, option_and_then};
 ghost use Rattle.std.specs.declared.cmp.Ordering.TheVariants.{Less};
 ghost use Rattle.json_tree.specs.declared.place.Step.{Step};
+ghost use Rattle.json_tree.specs.declared.place.Step.TheVariants.{Key, At};
 ghost use Rattle.json_tree.specs.declared.tree.Tree.{Tree};
+ghost use Rattle.json_tree.specs.declared.tree.Tree.TheOpen.{Tree-F};
+ghost use Rattle.json_tree.specs.declared.tree.Tree.TheVariants as v;
 ghost use Rattle.json_tree.specs.declared.tree.TreeFault.{TreeFault};
 ghost use Rattle.json_tree.specs.declared.tree.TreeFault.TheVariants.{Memory};
+ghost use Rattle.json_tree.specs.Examples.{rfc_document, part_of_list, part_of_document};
 ghost use Rattle.json_tree.specs.Levels.{level_at};
 ghost use Rattle.json_tree.specs.Misplaced.{IsMisplaced, place_cmp};
-ghost use Rattle.json_tree.specs.Places.{look, first_misplaced};
+ghost use Rattle.json_tree.specs.Places.{look, first_misplaced, has_word_indexes, pointer_of};
 ghost use Rattle.json_tree.specs.Reads.{Reads};
-ghost use Rattle.json_tree.specs.Trees.{is_lawful};
+ghost use Rattle.json_tree.specs.Trees.{is_lawful, renumbered, nesting_of, element};
 ghost use Rattle.json_tree.specs.WellFormed.{IsWellFormed};
 
 /// To look along two places joined is to look along the second from where the first leads.
@@ -49,4 +53,49 @@ pub fn first_misplaced_is_the_least()
 pub fn levels_make_the_tree()
     ensures { (t u : Tree) → is_lawful t ≡ true → is_lawful u ≡ true
         → ((place : List Step) → level_at place t ≡ level_at place u) → t ≡ u }
+{}
+
+/// Of the places that lead somewhere in a tree, a JSON Pointer names one. RFC 6901, section 4.
+pub fn a_pointer_names_one_place()
+    ensures { (t : Tree) (p q : List Step) (a b : Tree)
+        → look p t ≡ Some a → look q t ≡ Some b
+        → has_word_indexes p ≡ true → has_word_indexes q ≡ true
+        → pointer_of p ≡ pointer_of q → p ≡ q }
+{}
+
+/// Worked rows: pointers of RFC 6901, section 5, of the places in its example document, and what
+/// they lead to there.
+pub fn worked_pointers()
+    ensures root { (pointer_of [] ≡ []) × (look [] rfc_document ≡ Some rfc_document) }
+    ensures element { (pointer_of (Key (codes "foo") ∷ At 0 ∷ []) ≡ codes "/foo/0")
+        × (look (Key (codes "foo") ∷ At 0 ∷ []) rfc_document ≡ Some (v.Text (codes "bar"))) }
+    ensures empty { (pointer_of (Key [] ∷ []) ≡ codes "/")
+        × (look (Key [] ∷ []) rfc_document ≡ Some (v.Whole (pos 0))) }
+    ensures slash { (pointer_of (Key (codes "a/b") ∷ []) ≡ codes "/a~1b")
+        × (look (Key (codes "a/b") ∷ []) rfc_document ≡ Some (v.Whole (pos 1))) }
+    ensures percent { (pointer_of (Key (codes "c%d") ∷ []) ≡ codes "/c%d")
+        × (look (Key (codes "c%d") ∷ []) rfc_document ≡ Some (v.Whole (pos 2))) }
+    ensures quote { (pointer_of (Key (codes "k\"l") ∷ []) ≡ codes "/k\"l")
+        × (look (Key (codes "k\"l") ∷ []) rfc_document ≡ Some (v.Whole (pos 6))) }
+    ensures tilde { (pointer_of (Key (codes "m~n") ∷ []) ≡ codes "/m~0n")
+        × (look (Key (codes "m~n") ∷ []) rfc_document ≡ Some (v.Whole (pos 8))) }
+{}
+
+/// Worked rows: a document of which elements were left out. An index is that of the list as it was
+/// read, an index leads nowhere in an object and a name nowhere in a list, and a version number is
+/// misplaced unless its own name is `@version`.
+pub fn worked_tree()
+    ensures by_index { look (Key (codes "a/b") ∷ At 7 ∷ At 4 ∷ []) part_of_document
+        ≡ Some (v.Text (codes "x")) }
+    ensures not_by_position { look (Key (codes "a/b") ∷ At 1 ∷ []) part_of_document ≡ None }
+    ensures name_in_list { look (Key (codes "a/b") ∷ Key (codes "7") ∷ []) part_of_document
+        ≡ None }
+    ensures index_in_object { look (At 0 ∷ []) part_of_document ≡ None }
+    ensures level { level_at (Key (codes "a/b") ∷ []) part_of_document
+        ≡ Some (Tree-F.List (record { at = 3; value = tt } ∷ record { at = 7; value = tt } ∷ [])) }
+    ensures misplaced { first_misplaced part_of_document
+        ≡ Some (Key (codes "a/b") ∷ At 7 ∷ At 9 ∷ []) }
+    ensures numbered { renumbered part_of_list
+        ≡ v.List (element 0 (v.Text (codes "x")) ∷ element 1 v.Version ∷ []) }
+    ensures nesting { nesting_of part_of_document ≡ 3 }
 {}
