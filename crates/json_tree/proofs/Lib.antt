@@ -18,3 +18,4 @@ pub mod StepOrder
 pub mod SameLevels
 pub mod LeastMisplaced
 pub mod OnePointer
+pub mod PlaceOrder

@@ -1,7 +1,10 @@
 //! Laws of the definitions: each is the contract of a function that does nothing.
 
-ghost use Rattle.std.specs.Prelude.{◌≡◌, ◌++◌, ◌⊎◌, ◌∷◌, [], ℕ, pos, List, codes, true, Some, None, Result, Err, option_and_then};
-ghost use Rattle.std.specs.declared.cmp.Ordering.TheVariants.{Less};
+ghost use Rattle.std.specs.Prelude.{◌≡◌, ◌++◌, ◌⊎◌, ◌∷◌, [], ◌^◌, ◌-◌, ℕ, pos, List, codes, true, false, Some, None, Result, Err, option_and_then};
+ghost use Rattle.std.specs.declared.cmp.Ordering.TheVariants.{Less, Equal};
+ghost use Rattle.std.specs.Cmp.{IsTotalOrder};
+ghost use Rattle.json_tree.specs.declared.tree.Item.{Item};
+ghost use Rattle.json_tree.specs.declared.tree.Member.{Member};
 ghost use Rattle.json_tree.specs.declared.place.Step.{Step};
 ghost use Rattle.json_tree.specs.declared.place.Step.TheVariants.{Key, At};
 ghost use Rattle.json_tree.specs.declared.tree.Tree.{Tree};
@@ -14,7 +17,7 @@ ghost use Rattle.json_tree.specs.Levels.{level_at};
 ghost use Rattle.json_tree.specs.Misplaced.{IsMisplaced, place_cmp};
 ghost use Rattle.json_tree.specs.Places.{look, first_misplaced, has_word_indexes, pointer_of};
 ghost use Rattle.json_tree.specs.Reads.{Reads};
-ghost use Rattle.json_tree.specs.Trees.{is_lawful, renumbered, nesting_of, element};
+ghost use Rattle.json_tree.specs.Trees.{is_lawful, renumbered, nesting_of, element, new_member};
 ghost use Rattle.json_tree.specs.WellFormed.{IsWellFormed};
 
 /// To look along two places joined is to look along the second from where the first leads.
@@ -37,6 +40,12 @@ pub fn a_text_has_one_outcome()
         → (r ≡ Err Memory → ⊥) → (s ≡ Err Memory → ⊥) → r ≡ s }
 {}
 
+/// The order of places is total, and of two places neither comes first only where they are one.
+pub fn places_have_one_order()
+    ensures total { IsTotalOrder place_cmp }
+    ensures equal { (p q : List Step) → place_cmp p q ≡ Equal → p ≡ q }
+{}
+
 /// Where no first version number is misplaced, none is; and in a lawful tree the first one that is
 /// misplaced stands at the least of the places where one is.
 pub fn first_misplaced_is_the_least()
@@ -53,6 +62,15 @@ pub fn first_misplaced_is_the_least()
 pub fn levels_make_the_tree()
     ensures { (t u : Tree) → is_lawful t ≡ true → is_lawful u ≡ true
         → ((place : List Step) → level_at place t ≡ level_at place u) → t ≡ u }
+{}
+
+/// What stands at a name is the value of the first member of that name, and what stands at an index
+/// the first element with it.
+pub fn the_first_stands_at_a_step()
+    ensures member { (key : List ℕ) (value : Tree) (others : List (Member Tree))
+        → look (Key key ∷ []) (v.Object (new_member key value ∷ others)) ≡ Some value }
+    ensures element { (at : ℕ) (value : Tree) (others : List (Item Tree))
+        → look (At at ∷ []) (v.List (element at value ∷ others)) ≡ Some value }
 {}
 
 /// Of the places that lead somewhere in a tree, a JSON Pointer names one. RFC 6901, section 4.
@@ -88,6 +106,7 @@ pub fn worked_tree()
     ensures by_index { look (Key (codes "a/b") ∷ At 7 ∷ At 4 ∷ []) part_of_document
         ≡ Some (v.Text (codes "x")) }
     ensures not_by_position { look (Key (codes "a/b") ∷ At 1 ∷ []) part_of_document ≡ None }
+    ensures no_member { look (Key (codes "a") ∷ []) part_of_document ≡ None }
     ensures name_in_list { look (Key (codes "a/b") ∷ Key (codes "7") ∷ []) part_of_document
         ≡ None }
     ensures index_in_object { look (At 0 ∷ []) part_of_document ≡ None }
@@ -97,5 +116,24 @@ pub fn worked_tree()
         ≡ Some (Key (codes "a/b") ∷ At 7 ∷ At 9 ∷ []) }
     ensures numbered { renumbered part_of_list
         ≡ v.List (element 0 (v.Text (codes "x")) ∷ element 1 v.Version ∷ []) }
-    ensures nesting { nesting_of part_of_document ≡ 3 }
+{}
+
+/// Worked rows: how deep trees nest. A value alone has nesting 1, and so has an empty list; lists
+/// beside one another do not add up.
+pub fn worked_nesting()
+    ensures alone { nesting_of v.Null ≡ 1 }
+    ensures empty { nesting_of (v.List []) ≡ 1 }
+    ensures inside { nesting_of part_of_document ≡ 3 }
+    ensures beside { nesting_of (v.List (element 0 (v.List []) ∷ element 1 (v.List []) ∷ [])) ≡ 2 }
+{}
+
+/// Worked rows: the order of places, and which indexes have 64 bits. Indexes are compared as
+/// numbers, names by their bytes, and a value comes before what is inside it.
+pub fn worked_places()
+    ensures numbers { place_cmp (At 9 ∷ Key (codes "b") ∷ []) (At 10 ∷ Key (codes "a") ∷ []) ≡ Less }
+    ensures bytes { place_cmp (Key (codes "Z") ∷ []) (Key (codes "a") ∷ []) ≡ Less }
+    ensures index_first { place_cmp (At 1 ∷ []) (Key (codes "0") ∷ []) ≡ Less }
+    ensures inside { place_cmp (At 1 ∷ []) (At 1 ∷ At 0 ∷ []) ≡ Less }
+    ensures greatest_word { has_word_indexes (Key (codes "a") ∷ At (2 ^ 64 - 1) ∷ []) ≡ true }
+    ensures above_words { has_word_indexes (At (2 ^ 64) ∷ Key (codes "a") ∷ []) ≡ false }
 {}

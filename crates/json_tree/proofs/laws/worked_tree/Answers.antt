@@ -5,7 +5,7 @@ use Rattle.json_tree.specs.Places.{look}
 use Rattle.json_tree.specs.Levels.{level_of, level_in}
 use Rattle.json_tree.proofs.Kept.{look-one}
 use Rattle.json_tree.proofs.TreeLemmas.{child_of-Object-Key, child_of-Object-At, child_of-List-At, child_of-List-Key}
-use Rattle.json_tree.proofs.Equations.{misplaced-Null, misplaced-Text, misplaced-Version, misplaced-List, misplaced-Object, renumbered-List, renumbered-Text, renumbered-Version, levels_of-Null, levels_of-Text, levels_of-Version, levels_of-List, levels_of-Object}
+use Rattle.json_tree.proofs.Equations.{misplaced-Null, misplaced-Text, misplaced-Version, misplaced-List, misplaced-Object, renumbered-List, renumbered-Text, renumbered-Version}
 use Rattle.json_tree.proofs.laws.worked_tree.Goals as goal
 
 pub returns-clause-by_index : goal.returns-clause-by_index
@@ -34,5 +34,5 @@ returns-clause-misplaced c = rw (misplaced-Object, misplaced-Version, misplaced-
 pub returns-clause-numbered : goal.returns-clause-numbered
 returns-clause-numbered c = rw (renumbered-List, renumbered-Text, renumbered-Version) refl
 
-pub returns-clause-nesting : goal.returns-clause-nesting
-returns-clause-nesting c = rw (levels_of-Object, levels_of-Version, levels_of-List, levels_of-Null, levels_of-List, levels_of-Text, levels_of-Version) refl
+pub returns-clause-no_member : goal.returns-clause-no_member
+returns-clause-no_member c = look-one _ (Key (codes "a")) ∙ child_of-Object-Key _ (codes "a")
