@@ -36,7 +36,8 @@ pub record MisplacedUnder (named : Bool) (t : Tree) (place : List Step) : Type 0
 
 -- ---- the version number itself
 
-is_number : (t : Tree) (y : Tree-F Tree) → out-Tree t ≡ y → is_version y ≡ true → t ≡ v.Version
+-- a tree that opens as the version number is it
+pub is_number : (t : Tree) (y : Tree-F Tree) → out-Tree t ≡ y → is_version y ≡ true → t ≡ v.Version
 is_number t Tree-F.Null e h = absurd (cc)
 is_number t (Tree-F.Bool b) e h = absurd (cc)
 is_number t (Tree-F.Whole z) e h = absurd (cc)
@@ -55,7 +56,7 @@ no_branches (Tree-F.List items) h = absurd (cc)
 no_branches (Tree-F.Object members) h = absurd (cc)
 
 -- a tree that is the version number opens as it
-is_version-Version : (t : Tree) → t ≡ v.Version → is_version (out-Tree t) ≡ true
+pub is_version-Version : (t : Tree) → t ≡ v.Version → is_version (out-Tree t) ≡ true
 is_version-Version t is = ap (λ u. is_version (out-Tree u)) is ∙ ap is_version v.outs-Version
 
 -- in the version number, and in another tree

@@ -19,3 +19,4 @@ pub mod SameLevels
 pub mod LeastMisplaced
 pub mod OnePointer
 pub mod PlaceOrder
+pub mod Everywhere

@@ -1,6 +1,6 @@
 //! Laws of the definitions: each is the contract of a function that does nothing.
 
-ghost use Rattle.std.specs.Prelude.{◌≡◌, ◌++◌, ◌⊎◌, ◌∷◌, [], ◌^◌, ◌-◌, ℕ, pos, List, codes, true, false, Some, None, Result, Err, option_and_then};
+ghost use Rattle.std.specs.Prelude.{◌≡◌, ◌↔◌, ◌++◌, ◌⊎◌, ◌∷◌, [], ◌^◌, ◌-◌, ℕ, ℤ, pos, negsuc, List, codes, true, false, Some, None, Result, Err, option_and_then};
 ghost use Rattle.std.specs.declared.cmp.Ordering.TheVariants.{Less, Equal};
 ghost use Rattle.std.specs.Cmp.{IsTotalOrder};
 ghost use Rattle.json_tree.specs.declared.tree.Item.{Item};
@@ -17,7 +17,7 @@ ghost use Rattle.json_tree.specs.Levels.{level_at};
 ghost use Rattle.json_tree.specs.Misplaced.{IsMisplaced, place_cmp};
 ghost use Rattle.json_tree.specs.Places.{look, first_misplaced, has_word_indexes, pointer_of};
 ghost use Rattle.json_tree.specs.Reads.{Reads};
-ghost use Rattle.json_tree.specs.Trees.{is_lawful, renumbered, nesting_of, element, new_member};
+ghost use Rattle.json_tree.specs.Trees.{is_lawful, is_in_range, is_64_bits, holds_version, renumbered, nesting_of, element, new_member};
 ghost use Rattle.json_tree.specs.WellFormed.{IsWellFormed};
 
 /// To look along two places joined is to look along the second from where the first leads.
@@ -73,6 +73,16 @@ pub fn the_first_stands_at_a_step()
         → look (At at ∷ []) (v.List (element at value ∷ others)) ≡ Some value }
 {}
 
+/// A lawful tree holds no version number exactly where none stands at a place, and it is in range
+/// exactly where each whole number at a place is from -2^63 to 2^64 - 1.
+pub fn what_a_tree_holds_stands_at_places()
+    ensures version { (t : Tree) → is_lawful t ≡ true
+        → (holds_version t ≡ false ↔ ((place : List Step) → look place t ≡ Some v.Version → ⊥)) }
+    ensures in_range { (t : Tree) → is_lawful t ≡ true
+        → (is_in_range t ≡ true ↔ ((place : List Step) (z : ℤ)
+        → look place t ≡ Some (v.Whole z) → is_64_bits z ≡ true)) }
+{}
+
 /// Of the places that lead somewhere in a tree, a JSON Pointer names one. RFC 6901, section 4.
 pub fn a_pointer_names_one_place()
     ensures { (t : Tree) (p q : List Step) (a b : Tree)
@@ -82,7 +92,7 @@ pub fn a_pointer_names_one_place()
 {}
 
 /// Worked rows: pointers of RFC 6901, section 5, of the places in its example document, and what
-/// they lead to there.
+/// they lead to there; and a name that looks escaped. RFC 6901, section 4.
 pub fn worked_pointers()
     ensures root { (pointer_of [] ≡ []) × (look [] rfc_document ≡ Some rfc_document) }
     ensures element { (pointer_of (Key (codes "foo") ∷ At 0 ∷ []) ≡ codes "/foo/0")
@@ -93,10 +103,15 @@ pub fn worked_pointers()
         × (look (Key (codes "a/b") ∷ []) rfc_document ≡ Some (v.Whole (pos 1))) }
     ensures percent { (pointer_of (Key (codes "c%d") ∷ []) ≡ codes "/c%d")
         × (look (Key (codes "c%d") ∷ []) rfc_document ≡ Some (v.Whole (pos 2))) }
+    ensures backslash { (pointer_of (Key (codes "i\\j") ∷ []) ≡ codes "/i\\j")
+        × (look (Key (codes "i\\j") ∷ []) rfc_document ≡ Some (v.Whole (pos 5))) }
     ensures quote { (pointer_of (Key (codes "k\"l") ∷ []) ≡ codes "/k\"l")
         × (look (Key (codes "k\"l") ∷ []) rfc_document ≡ Some (v.Whole (pos 6))) }
+    ensures space { (pointer_of (Key (codes " ") ∷ []) ≡ codes "/ ")
+        × (look (Key (codes " ") ∷ []) rfc_document ≡ Some (v.Whole (pos 7))) }
     ensures tilde { (pointer_of (Key (codes "m~n") ∷ []) ≡ codes "/m~0n")
         × (look (Key (codes "m~n") ∷ []) rfc_document ≡ Some (v.Whole (pos 8))) }
+    ensures escaped_name { pointer_of (Key (codes "~1") ∷ []) ≡ codes "/~01" }
 {}
 
 /// Worked rows: a document of which elements were left out. An index is that of the list as it was
@@ -130,10 +145,19 @@ pub fn worked_nesting()
 /// Worked rows: the order of places, and which indexes have 64 bits. Indexes are compared as
 /// numbers, names by their bytes, and a value comes before what is inside it.
 pub fn worked_places()
-    ensures numbers { place_cmp (At 9 ∷ Key (codes "b") ∷ []) (At 10 ∷ Key (codes "a") ∷ []) ≡ Less }
+    ensures numbers { place_cmp (At 9 ∷ Key (codes "b") ∷ []) (At 10 ∷ Key (codes "a") ∷ [])
+        ≡ Less }
     ensures bytes { place_cmp (Key (codes "Z") ∷ []) (Key (codes "a") ∷ []) ≡ Less }
     ensures index_first { place_cmp (At 1 ∷ []) (Key (codes "0") ∷ []) ≡ Less }
     ensures inside { place_cmp (At 1 ∷ []) (At 1 ∷ At 0 ∷ []) ≡ Less }
     ensures greatest_word { has_word_indexes (Key (codes "a") ∷ At (2 ^ 64 - 1) ∷ []) ≡ true }
     ensures above_words { has_word_indexes (At (2 ^ 64) ∷ Key (codes "a") ∷ []) ≡ false }
+{}
+
+/// Worked rows: the least and the greatest whole number that is in range, and those beside them.
+pub fn worked_range()
+    ensures least { is_64_bits (negsuc (2 ^ 63 - 1)) ≡ true }
+    ensures below { is_64_bits (negsuc (2 ^ 63)) ≡ false }
+    ensures greatest { is_64_bits (pos (2 ^ 64 - 1)) ≡ true }
+    ensures above { is_64_bits (pos (2 ^ 64)) ≡ false }
 {}

@@ -29,3 +29,12 @@ returns-clause-quote c = (refl, look-one _ _ ∙ child_of-Object-Key _ _)
 
 pub returns-clause-tilde : goal.returns-clause-tilde
 returns-clause-tilde c = (refl, look-one _ _ ∙ child_of-Object-Key _ _)
+
+pub returns-clause-backslash : goal.returns-clause-backslash
+returns-clause-backslash c = (refl, look-one _ _ ∙ child_of-Object-Key _ _)
+
+pub returns-clause-space : goal.returns-clause-space
+returns-clause-space c = (refl, look-one _ _ ∙ child_of-Object-Key _ _)
+
+pub returns-clause-escaped_name : goal.returns-clause-escaped_name
+returns-clause-escaped_name c = refl
