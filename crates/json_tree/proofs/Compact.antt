@@ -1,9 +1,8 @@
 -- The compact text of a tree reads as its JSON value; without a version number it is what `serde_json` writes.
-use Rattle.std.proofs.Common.{◌≡◌, ◌≤◌, ℕ, ℤ, suc, ◌+◌, pos, negsuc, true, false, Bool, List, [], ◌∷◌, ◌++◌, map, Option, Some, Less, Greater, option_map, option_and_then, append-nil, append_assoc, refl, sym, ap, ◌∙◌, arith}
+use Rattle.std.proofs.Common.{◌≡◌, ◌≤◌, ℕ, ℤ, suc, pos, negsuc, true, false, List, [], ◌∷◌, ◌++◌, map, Option, Some, Less, Greater, option_map, option_and_then, append-nil, append_assoc, refl, sym, ap, ◌∙◌, arith}
 use Rattle.std.specs.Prelude.{codes}
 use Rattle.std.specs.List.{list_all, list_any}
 use Rattle.std.specs.Fmt.{signed_decimal}
-use Rattle.std.specs.Str.{bytes_eq}
 use Rattle.std.specs.Ordering.{nat_cmp, ordering_reverse}
 use Rattle.std.specs.Cmp.Lexicographic.{slice_cmp, nat_list_cmp_total}
 use Rattle.std.proofs.lemmas.Bool.{and_parts, and_from, or_parts, true≢false}
@@ -15,7 +14,7 @@ use Rattle.json.specs.Print.{print}
 use Rattle.json.specs.Lex.{tokens}
 use Rattle.json.specs.Tree as jsons
 use Rattle.json.proofs.Printed.Trees.{value-json_tokens}
-use Rattle.serde_json.specs.Data.{Data, number, float, array, object, Members, no_members, member, put}
+use Rattle.serde_json.specs.Data.{Data, number, float, array, object, member, put}
 use Rattle.serde_json.specs.Find.{of_integer}
 use Rattle.serde_json.specs.View.{items_of}
 use Rattle.serde_json.specs.Read as reader
@@ -25,10 +24,9 @@ use Rattle.serde_json.proofs.OnLiterals.{serde_json_on_literals}
 use Rattle.serde_json.proofs.Texts.{print-outline}
 use Rattle.json_tree.specs.declared.printing.TheConstants.{VERSION}
 use Rattle.json_tree.specs.declared.tree.Tree.{Tree}
-use Rattle.json_tree.specs.declared.tree.Tree.TheVariants as v
 use Rattle.json_tree.specs.declared.tree.Item.{Item}
 use Rattle.json_tree.specs.declared.tree.Member.{Member}
-use Rattle.json_tree.specs.Trees.{is_before, each_next, is_lawful, is_in_range, is_64_bits, greatest, levels_of, holds_version}
+use Rattle.json_tree.specs.Trees.{is_before, is_lawful, is_in_range, is_64_bits, greatest, levels_of, holds_version}
 use Rattle.json_tree.specs.Prints.{data_of, members_data, json_of, json_items, json_members, compact_of}
 use Rattle.json_tree.specs.Internal.Writes.{item_json, member_json}
 use Rattle.json_tree.proofs.Induction.{Each, by_cases}

@@ -1,8 +1,8 @@
 -- A character past ASCII is written as it is: none of its bytes is escaped.
-use Rattle.std.proofs.Common.{◌≡◌, ◌≢◌, ℕ, ◌+◌, ◌≤◌, ◌/◌, List, [], ◌∷◌, refl, ap, arith, Bool, true, false, cond, ltb, encode_utf8}
+use Rattle.std.proofs.Common.{◌≡◌, ◌≢◌, ℕ, ◌≤◌, List, [], ◌∷◌, refl, ap, arith, Bool, true, false, ltb, encode_utf8}
 use Rattle.std.specs.List.{flat_map, AllByRecursion}
 use Rattle.std.proofs.lemmas.Bool.Decides.{nat_tests}
-use lib.Utf8.{encode, next}
+use lib.Utf8.{encode}
 use Rattle.json_tree.specs.Places.{escaped}
 use Rattle.base_types.proofs.Utf8.{encode-wide, encode-narrow}
 

@@ -1,5 +1,5 @@
 -- What stands in a tree that is lawful, or well formed, is so too.
-use Rattle.std.proofs.Common.{◌≡◌, ℕ, Bool, true, false, ◌&&◌, ◌==◌, nat_lt, List, [], ◌∷◌, Option, Some, None, option_map, option_and_then, find, is_none, refl, sym, ap, ◌∙◌, subst, inl, inr}
+use Rattle.std.proofs.Common.{◌≡◌, ℕ, Bool, true, false, ◌==◌, List, [], ◌∷◌, Option, Some, None, option_map, option_and_then, find, refl, sym, ap, ◌∙◌, subst, inl, inr}
 use Rattle.std.specs.List.{list_all}
 use Rattle.std.specs.Option.{option_copied, IfSome}
 use Rattle.std.proofs.lemmas.Bool.{cases_Bool, and_parts}
@@ -12,7 +12,7 @@ use Rattle.json_tree.specs.declared.tree.Item.{Item}
 use Rattle.json_tree.specs.declared.tree.Member.{Member}
 use Rattle.json_tree.specs.declared.place.Step.{Step}
 use Rattle.json_tree.specs.declared.place.Step.TheVariants.{Key, At}
-use Rattle.json_tree.specs.Trees.{each_next, is_before, is_lawful, is_in_range}
+use Rattle.json_tree.specs.Trees.{is_lawful, is_in_range}
 use Rattle.json_tree.specs.Places.{value_of, members_of, items_of, below, or_else, child_in, child_of, look, misplaced, is_version_key}
 use Rattle.json_tree.specs.Internal.Misplaced.{first_in_items, first_in_members}
 use Rattle.json_tree.specs.WellFormed.{IsWellFormed}
@@ -41,10 +41,12 @@ each_passes test (x ∷ xs) h = let both = and_parts (test x) _ h in (both.0, ea
 
 -- ---- a value inside
 
-is_list : (t : Tree) (items : List (Item Tree)) → out-Tree t ≡ Tree-F.List items → t ≡ v.List items
+-- a tree that opens as a list is that list
+pub is_list : (t : Tree) (items : List (Item Tree)) → out-Tree t ≡ Tree-F.List items → t ≡ v.List items
 is_list t items e = sym (roll-out-Tree t) ∙ ap roll-Tree e ∙ v.rolls-List items
 
-is_object : (t : Tree) (members : List (Member Tree)) → out-Tree t ≡ Tree-F.Object members → t ≡ v.Object members
+-- a tree that opens as an object is that object
+pub is_object : (t : Tree) (members : List (Member Tree)) → out-Tree t ≡ Tree-F.Object members → t ≡ v.Object members
 is_object t members e = sym (roll-out-Tree t) ∙ ap roll-Tree e ∙ v.rolls-Object members
 
 -- what each element or member has, the child has

@@ -15,3 +15,11 @@ pub mod Versionless
 pub mod Sameness
 pub mod MemberChanges
 pub mod MemberLooks
+pub mod Outcomes
+pub mod Branches
+pub mod StepOrder
+pub mod SameLevels
+pub mod LeastMisplaced
+pub mod OnePointer
+pub mod PlaceOrder
+pub mod Everywhere

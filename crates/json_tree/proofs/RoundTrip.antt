@@ -1,6 +1,5 @@
 -- What is printed reads as the tree with its lists renumbered.
-use Rattle.std.proofs.Common.{◌≡◌, ◌≤◌, ℕ, ℤ, suc, ◌+◌, pos, negsuc, true, false, Bool, is_none, List, [], ◌∷◌, map, Some, None, Option, Ok, Global, String, string_bytes, refl, sym, ap, ◌∙◌, arith}
-use Rattle.std.specs.List.{list_any}
+use Rattle.std.proofs.Common.{◌≡◌, ◌≤◌, ℕ, ℤ, suc, ◌+◌, pos, negsuc, true, false, Bool, is_none, List, [], ◌∷◌, map, Some, None, Option, Ok, refl, sym, ap, ◌∙◌, arith}
 use Rattle.std.specs.Str.{IsUtf8}
 use Rattle.serde_json.specs.Data.{depth, items_depth, members_depth}
 use Rattle.serde_json.specs.Find.{as_integer, of_integer}
@@ -16,7 +15,7 @@ use Rattle.json_tree.specs.declared.tree.Item.{Item}
 use Rattle.json_tree.specs.declared.tree.Member.{Member}
 use Rattle.json_tree.specs.declared.place.Step.{Step}
 use Rattle.json_tree.specs.declared.place.Step.TheVariants.{Key, At}
-use Rattle.json_tree.specs.Trees.{tree_of, elements_of, entries_of, element, new_member, whole_or_version, greatest, levels_of, nesting_of, nesting_limit, holds_version, numbered, renumbered}
+use Rattle.json_tree.specs.Trees.{tree_of, elements_of, entries_of, element, new_member, whole_or_version, greatest, levels_of, nesting_of, nesting_limit, numbered, renumbered}
 use Rattle.json_tree.specs.Places.{below, or_else, misplaced, is_placed, is_version_key}
 use Rattle.json_tree.specs.Internal.Misplaced.{first_in_items, first_in_members}
 use Rattle.json_tree.specs.WellFormed.{IsWellFormed}
@@ -25,7 +24,7 @@ use Rattle.json_tree.specs.Reads.{Reads}
 use Rattle.json_tree.proofs.Induction.{Each, by_cases}
 use Rattle.json_tree.proofs.Compact.{read_back}
 use Rattle.json_tree.proofs.Depths.{levels_of-tree_of}
-use Rattle.json_tree.proofs.Equations.{holds_version-Null, holds_version-Bool, holds_version-Whole, holds_version-Version, holds_version-Text, holds_version-List, holds_version-Object, data_of-Null, data_of-Bool, data_of-Whole, data_of-Version, data_of-Text, data_of-List, data_of-Object, renumbered-Null, renumbered-Bool, renumbered-Whole, renumbered-Version, renumbered-Text, renumbered-List, renumbered-Object, levels_of-Null, levels_of-Bool, levels_of-Whole, levels_of-Version, levels_of-Text, levels_of-List, levels_of-Object, misplaced-List, misplaced-Object, datum}
+use Rattle.json_tree.proofs.Equations.{data_of-Null, data_of-Bool, data_of-Whole, data_of-Version, data_of-Text, data_of-List, data_of-Object, renumbered-Null, renumbered-Bool, renumbered-Whole, renumbered-Version, renumbered-Text, renumbered-List, renumbered-Object, levels_of-Null, levels_of-Bool, levels_of-Whole, levels_of-Version, levels_of-Text, levels_of-List, levels_of-Object, misplaced-List, misplaced-Object, datum}
 use Rattle.json_tree.proofs.Kept.{none_first, none_later}
 
 -- ---- the value of a tree is that of the tree renumbered

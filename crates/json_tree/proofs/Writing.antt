@@ -2,7 +2,6 @@
 use Rattle.std.proofs.Common.{◌≡◌, ◌≤◌, ℕ, ◌<◌, ◌+◌, suc, zero, ℤ, true, Bool, List, [], ◌∷◌, map, length, get_or, drop, ◌++◌, append_assoc, drop_of_length-le, refl, sym, ap, ◌∙◌, arith}
 use Rattle.std.specs.List.{list_all}
 use Rattle.json.specs.Token.{Token}
-use Rattle.json.specs.Json as json
 use Rattle.json.specs.Tree.{json_tokens, items_tokens, members_tokens}
 use Rattle.std.specs.Prelude.{codes}
 use Rattle.json.specs.Written.{Written}

@@ -1,5 +1,8 @@
 pub mod Trees
 pub mod Places
+pub mod Levels
+pub mod Misplaced
+pub mod Examples
 pub mod WellFormed
 pub mod Reads
 pub mod Prints

@@ -1,7 +1,7 @@
 -- Places in a tree, and what stands there: a tree seen as a finite map from its places.
 -- RFC 6901, 4.
-use Rattle.std.specs.Prelude.{ℕ, List, [], ◌∷◌, ◌++◌, map, Bool, false, ◌==◌, Option, Some, None, option_map, option_and_then, find, if◌then◌else◌, codes, decimal, is_none}
-use Rattle.std.specs.List.{flat_map}
+use Rattle.std.specs.Prelude.{ℕ, ◌^◌, nat_lt, List, [], ◌∷◌, ◌++◌, map, Bool, true, false, ◌==◌, Option, Some, None, option_map, option_and_then, find, if◌then◌else◌, codes, decimal, is_none}
+use Rattle.std.specs.List.{flat_map, list_all}
 use Rattle.std.specs.Str.{bytes_eq}
 use Rattle.json_tree.specs.declared.tree.Tree.{Tree, out-Tree, fold-Tree}
 use Rattle.json_tree.specs.declared.tree.Tree.TheOpen.{Tree-F}
@@ -126,3 +126,11 @@ token_of (At at) = decimal at
 abbrev pub pointer_of : List Step → List ℕ
 pointer_of [] = []
 pointer_of (step ∷ steps) = 47 ∷ (token_of step ++ pointer_of steps)
+
+-- whether each index is one of 64 bits, as those of a list that was read
+abbrev pub is_word_step : Step → Bool
+is_word_step (Key key) = true
+is_word_step (At at) = nat_lt at (2 ^ 64)
+
+abbrev pub has_word_indexes : List Step → Bool
+has_word_indexes place = list_all is_word_step place

@@ -1,8 +1,7 @@
-use Rattle.std.proofs.Common.{nat_lt, sym, ap, ◌∙◌, option_map, find, ◌==◌}
-use Rattle.std.specs.Option.{option_copied}
+use Rattle.std.proofs.Common.{nat_lt, ap, ◌∙◌}
 use Rattle.json_tree.specs.Trees.{each_next, is_before}
-use Rattle.json_tree.specs.Places.{value_of, child_of}
-use Rattle.json_tree.proofs.TreeLemmas.{members_rise, items_rise, child_of-Object-Key, child_of-List-At}
+use Rattle.json_tree.specs.Places.{child_of}
+use Rattle.json_tree.proofs.TreeLemmas.{members_rise, items_rise}
 use Rattle.json_tree.proofs.Kept.{answer_has, child_lawful, key_child, at_child}
 use Rattle.json_tree.proofs.looking.child.Goals as goal
 

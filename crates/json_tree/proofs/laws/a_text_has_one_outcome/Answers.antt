@@ -1,0 +1,5 @@
+use Rattle.json_tree.proofs.Outcomes.{one_outcome}
+use Rattle.json_tree.proofs.laws.a_text_has_one_outcome.Goals as goal
+
+pub returns : goal.returns
+returns c = one_outcome
