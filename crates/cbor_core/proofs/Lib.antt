@@ -12,3 +12,4 @@ pub mod Refusing
 pub mod RefusingMaps
 pub mod RefusingItems
 pub mod MoreBytes
+pub mod Maps

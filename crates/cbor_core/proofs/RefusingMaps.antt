@@ -8,12 +8,12 @@ use Rattle.std.proofs.lemmas.List.{length-append}
 use Rattle.cbor_core.specs.declared.fault.CborFault.{CborFault}
 use Rattle.cbor_core.specs.declared.fault.CborFault.TheVariants as f
 use Rattle.cbor_core.specs.declared.item.Item.{Item}
-use Rattle.cbor_core.specs.Grammar.{IsBytes, head_of, IsHead, EncodesEntries, KeysDiffer, put_all}
+use Rattle.cbor_core.specs.Grammar.{IsBytes, head_of, IsHead, EncodesEntries, KeysDiffer}
 use Rattle.cbor_core.specs.Refusals.{Rest, IsBehind, IsBehindHead, RefusesHead, is_key, LacksKey, RefusesEntry, RefusesEntries}
 use Rattle.cbor_core.specs.Internal.Results.{◌>>=◌}
 use Rattle.cbor_core.specs.Internal.Reading.{Reader, start_of, argument_at, key_at, entries_at}
 use Rattle.cbor_core.proofs.Outcomes.{same_err, took, stopped}
-use Rattle.cbor_core.proofs.Keys.{has, Fresh, fresh_before, fresh_after, fresh_at_first, lacks_before, lacks_after}
+use Rattle.cbor_core.proofs.Keys.{put_all, has, Fresh, fresh_before, fresh_after, fresh_at_first, lacks_before, lacks_after}
 use Rattle.cbor_core.proofs.Again.{Again, key_again}
 use Rattle.cbor_core.proofs.Found.{Takes, key_takes}
 use Rattle.cbor_core.proofs.Refusing.{EndsAt, RefusedSo, StopsSo, boolean, rest_at, behind_none, behind_then, ends_behind, start_is, argument_refused, argument_indefinite, argument_stops}
