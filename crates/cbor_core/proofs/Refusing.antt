@@ -4,7 +4,7 @@ use Rattle.std.specs.Prelude.{◌⊎◌, ◌&&◌, ◌||◌}
 use Rattle.std.specs.Int.{Width, w8, w16, w32, w64, byte_len, from_be_bytes}
 use Rattle.std.specs.Str.{IsUtf8, is_utf8}
 use Rattle.std.proofs.lemmas.Str.{IsUtf8-from_is_utf8, is_utf8-from_IsUtf8}
-use Rattle.std.proofs.lemmas.Bool.{ltb-true, ltb-false, lt-ltb, le-ltb, eqb-true, eqb-false, eq-eqb, ne_eqb, or_parts, or_cases, and_parts, false≢true}
+use Rattle.std.proofs.lemmas.Bool.{ltb-true, ltb-false, lt-ltb, le-ltb, eqb-true, eqb-false, eq-eqb, ne_eqb, or_parts, or_cases, cases_Bool, and_parts, false≢true}
 use Rattle.std.proofs.lemmas.List.{length-append, take-append-drop, length-take, take_at, append-nil}
 use Rattle.cbor_core.specs.declared.fault.CborFault.{CborFault}
 use Rattle.cbor_core.specs.declared.fault.CborFault.TheVariants as f
@@ -24,13 +24,8 @@ use Rattle.cbor_core.proofs.ReadingLoops.{item_as_list, item_as_map, item_as_fla
 abbrev pub EndsAt : ℕ → Rest → Type 0
 EndsAt total rest = total ≡ rest.at + length rest.bytes
 
--- a truth value is true or false
-pub boolean : (b : Bool) → (b ≡ true) ⊎ (b ≡ false)
-boolean true = inl refl
-boolean false = inr refl
-
 not_utf8 : (content : List ℕ) → (IsUtf8 content → ⊥) → is_utf8 content ≡ false
-not_utf8 content bad = elim (boolean (is_utf8 content)) [
+not_utf8 content bad = elim (cases_Bool (is_utf8 content)) [
   | inl t ↦ absurd (bad (IsUtf8-from_is_utf8 content t))
   | inr t ↦ t
 ]
@@ -274,7 +269,7 @@ item_head_refused total levels left at [] e is s = item_at_end total levels left
 item_head_refused total levels left at (b ∷ bytes) e is (inl s) = rw (s.0, s.1) (item_at_full total levels b bytes)
 item_head_refused total levels left at (b ∷ bytes) e is (inr (inl s)) =
     let here : total ≡ at + suc (length bytes) = is in
-    elim (boolean (is_item levels (b / 32))) [
+    elim (cases_Bool (is_item levels (b / 32))) [
       | inl yes_kind ↦
           let code : 28 ≤ b % 32 = ltb-false (b % 32) 28 (rw yes_kind at s.1) in
           rw s.2 (at_head total left s.0 b bytes levels (f.Forbidden at) yes_kind (argument_indefinite total at b bytes here code))

@@ -1,4 +1,4 @@
-//! Refusals, limits, and the examples of RFC 8949, appendix A.
+//! Refusals and their texts, limits, and the examples of RFC 8949, appendix A.
 
 use super::*;
 use std::test::*;
@@ -432,5 +432,39 @@ fn values_of_a_map(rt: HostRuntime) -> Result<(), Fail> {
     let written = encode(rt.alloc(), &item).ok().ok_or("memory")?;
     let by_keys: &[u8] = b"\xa3\x00\x61\x6e\x01\x82\x07\x40\x18\x19\x41\x0b";
     assert!(rt; written.as_slice() == by_keys);
+    Ok(())
+}
+
+/// The line of each fault.
+#[test]
+fn lines_of_faults(rt: HostRuntime) -> Result<(), Fail> {
+    let cases: [(CborFault, &str); 7] = [
+        (
+            CborFault::Truncated(7),
+            "the input ends at byte 7, inside an item",
+        ),
+        (
+            CborFault::NotShortest(0),
+            "the number in the head at byte 0 has a shorter spelling",
+        ),
+        (
+            CborFault::Forbidden(12),
+            "what begins at byte 12 may not stand there",
+        ),
+        (
+            CborFault::RepeatedKey(3),
+            "the key at byte 3 stands in its map before",
+        ),
+        (
+            CborFault::Trailing(u64::MAX),
+            "bytes follow the item, from byte 18446744073709551615 on",
+        ),
+        (CborFault::TooMany, "more than 100,000 items begin"),
+        (CborFault::Memory, "out of memory"),
+    ];
+    for (fault, want) in cases {
+        let line = fault.to_string(rt.alloc())?;
+        assert!(rt; line.as_str() == want);
+    }
     Ok(())
 }
