@@ -155,10 +155,11 @@ fn appendix_a_outside(rt: HostRuntime) {
     }
 }
 
-/// The rows that lie in the grammar: each is read, and written as it stands.
+/// The rows that lie in the grammar, and lists as deep as they may nest: each is read, and written as
+/// it stands.
 #[test]
 fn appendix_a_inside(rt: HostRuntime) -> Result<(), Fail> {
-    let cases: [(&str, &[u8]); 26] = [
+    let cases: [(&str, &[u8]); 27] = [
         ("0", b"\x00"),
         ("1", b"\x01"),
         ("10", b"\x0a"),
@@ -191,6 +192,7 @@ fn appendix_a_inside(rt: HostRuntime) -> Result<(), Fail> {
         ),
         ("{}", b"\xa0"),
         ("{1: 2, 3: 4}", b"\xa2\x01\x02\x03\x04"),
+        ("four deep", b"\x81\x81\x81\x80"),
     ];
     for (name, bytes) in cases {
         let item = decode(rt.alloc(), bytes)

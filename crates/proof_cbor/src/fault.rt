@@ -4,7 +4,7 @@ ghost use Rattle.std.specs.Prelude.{◌≡◌};
 
 use base_types::Memory;
 use cbor_core::CborFault;
-use std::alloc::{AllocError, AllocFailed};
+use std::fmt;
 
 /// A part of a proof value, in the order of its list.
 #[derive(Clone, Copy, Debug, PartialEq, Eq)]
@@ -49,22 +49,39 @@ impl From<Memory> for ValueFault {
     }
 }
 
-impl From<AllocError> for ValueFault {
-    ghost use Rattle.proof_cbor.specs.declared.fault.ValueFault.TheVariants as fault;
-
-    ghost from_gives = { λ _ e. e ≡ fault.Memory };
-
-    fn from(_error: AllocError) -> ValueFault {
-        ValueFault::Memory
+impl fmt::Display for Part {
+    fn fmt<W: fmt::Write>(&self, f: &mut fmt::Formatter<W>) -> fmt::Result {
+        match self {
+            Part::Array => write!(f, "list of parts"),
+            Part::BaseSignature => write!(f, "base signature"),
+            Part::PublicKey => write!(f, "public key"),
+            Part::HmacKey => write!(f, "HMAC key"),
+            Part::Signatures => write!(f, "signatures"),
+            Part::Pointers => write!(f, "mandatory pointers"),
+            Part::LabelMap => write!(f, "label map"),
+            Part::Indexes => write!(f, "mandatory indexes"),
+        }
     }
 }
 
-impl<T: Drop> From<AllocFailed<T>> for ValueFault {
-    ghost use Rattle.proof_cbor.specs.declared.fault.ValueFault.TheVariants as fault;
-
-    ghost from_gives = { λ _ e. e ≡ fault.Memory };
-
-    fn from(_error: AllocFailed<T>) -> ValueFault {
-        ValueFault::Memory
+impl fmt::Display for ValueFault {
+    fn fmt<W: fmt::Write>(&self, f: &mut fmt::Formatter<W>) -> fmt::Result {
+        match self {
+            ValueFault::NotMultibase => {
+                write!(f, "the text is not `u` and base64url without padding")
+            }
+            ValueFault::Header => write!(
+                f,
+                "the value does not begin with the three bytes of its kind"
+            ),
+            ValueFault::Cbor(fault) => write!(f, "behind the header, {fault}"),
+            ValueFault::Shape(Part::Array) => write!(f, "the value is no list of five parts"),
+            ValueFault::Shape(part) => write!(f, "in the {part}, an item has the wrong kind"),
+            ValueFault::Length(part) => {
+                write!(f, "in the {part}, a byte string has the wrong length")
+            }
+            ValueFault::Indexes => write!(f, "the mandatory indexes do not rise"),
+            ValueFault::Memory => write!(f, "out of memory"),
+        }
     }
 }
