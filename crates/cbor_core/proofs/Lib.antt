@@ -13,3 +13,4 @@ pub mod RefusingMaps
 pub mod RefusingItems
 pub mod MoreBytes
 pub mod Maps
+pub mod EqualItems

@@ -1,4 +1,5 @@
 pub mod Grammar
 pub mod Writing
+pub mod Equality
 pub mod Refusals
 pub mod Internal

@@ -17,7 +17,7 @@ pub enum Item {
 }
 
 /// One key of a map and its value.
-#[derive(Debug, Drop)]
+#[derive(Debug, Drop, PartialEq, Eq)]
 pub struct Pair<V = Item> {
     pub key: u64,
     pub value: V,

@@ -409,6 +409,30 @@ fn heads(rt: HostRuntime) {
     }
 }
 
+/// The heads of whole numbers rise by their bytes as the numbers do, so that keys sorted by number are
+/// sorted as RFC 8949, 4.2.1 has it.
+#[test]
+fn heads_rise(rt: HostRuntime) {
+    let numbers: [u64; 11] = [
+        0,
+        1,
+        23,
+        24,
+        255,
+        256,
+        65_535,
+        65_536,
+        4_294_967_295,
+        4_294_967_296,
+        u64::MAX,
+    ];
+    for (low, high) in numbers.iter().zip(numbers.iter().skip(1)) {
+        let below = heads::head(0, *low);
+        let above = heads::head(0, *high);
+        assert!(rt; below.bytes.as_slice() < above.bytes.as_slice(), "at {low}");
+    }
+}
+
 /// What a map holds, by rising keys, in whatever order it was spelled.
 #[test]
 fn values_of_a_map(rt: HostRuntime) -> Result<(), Fail> {
@@ -468,5 +492,44 @@ fn lines_of_faults(rt: HostRuntime) -> Result<(), Fail> {
         let line = fault.to_string(rt.alloc())?;
         assert!(rt; line.as_str() == want);
     }
+    Ok(())
+}
+
+/// Of these items no two are equal, and each is equal to itself.
+#[test]
+fn items_are_compared(rt: HostRuntime) -> Result<(), Fail> {
+    let spellings: [&[u8]; 13] = [
+        b"\x00",
+        b"\x01",
+        b"\x40",
+        b"\x60",
+        b"\x41\x61",
+        b"\x61\x61",
+        b"\x80",
+        b"\xa0",
+        b"\x81\x00",
+        b"\x82\x00\x00",
+        b"\xa1\x00\x00",
+        b"\xa1\x00\x01",
+        b"\xa1\x01\x00",
+    ];
+    for (i, first) in spellings.iter().enumerate() {
+        let item = decode(rt.alloc(), first).ok().ok_or("an item")?;
+        for (j, second) in spellings.iter().enumerate() {
+            let other = decode(rt.alloc(), second).ok().ok_or("an item")?;
+            assert!(rt; (item == other) == (i == j), "at {i} and {j}");
+        }
+    }
+    Ok(())
+}
+
+/// A map is equal to the same entries in another order.
+#[test]
+fn maps_are_compared(rt: HostRuntime) -> Result<(), Fail> {
+    let falling: &[u8] = b"\xa3\x18\x19\x41\x0b\x00\x61\x6e\x01\x82\x07\x40";
+    let rising: &[u8] = b"\xa3\x00\x61\x6e\x01\x82\x07\x40\x18\x19\x41\x0b";
+    let item = decode(rt.alloc(), falling).ok().ok_or("a map")?;
+    let other = decode(rt.alloc(), rising).ok().ok_or("a map")?;
+    assert!(rt; item == other);
     Ok(())
 }
