@@ -1,7 +1,7 @@
 -- Items that are the same numbers are the same.
-use Rattle.std.proofs.Common.{◌≡◌, ℕ, suc, Bool, true, false, eqb, List, [], ◌∷◌, ◌++◌, length, take, drop, map, refl, sym, ap, ◌∙◌, append_assoc, arith}
+use Rattle.std.proofs.Common.{◌≡◌, ℕ, Bool, false, eqb, List, [], ◌∷◌, ◌++◌, length, take, drop, refl, sym, ap, ◌∙◌, append_assoc, arith}
 use Rattle.std.specs.Prelude.{◌↔◌, IsTrue}
-use Rattle.std.specs.Bool.{Decides, one_answer}
+use Rattle.std.specs.Bool.{one_answer}
 use Rattle.std.specs.List.{flat_map, AllByRecursion}
 use Rattle.std.specs.Cmp.Lexicographic.{bytes_decides}
 use Rattle.std.proofs.lemmas.Bool.{eq-eqb, false≢true}
@@ -13,7 +13,7 @@ use Rattle.cbor_core.specs.declared.item.Item.TheVariants as v
 use Rattle.cbor_core.specs.declared.item.Pair.{Pair}
 use Rattle.cbor_core.specs.Equality.{numbers_step, numbers_of, equal_items}
 use Rattle.cbor_core.proofs.Writes.{seen}
-use Rattle.cbor_core.proofs.Lawful.{Cases, by_cases}
+use Rattle.cbor_core.proofs.Lawful.{by_cases}
 
 -- ---- one level
 

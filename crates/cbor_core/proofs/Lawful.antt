@@ -1,13 +1,11 @@
 -- The spelling of an item that may be written spells it.
-use Rattle.std.proofs.Common.{◌≡◌, ◌≢◌, ℕ, zero, suc, ◌^◌, ◌≤◌, ◌<◌, Bool, true, false, ltb, List, [], ◌∷◌, ◌++◌, length, map, refl, sym, ap, subst, ◌∙◌, append_assoc, arith, inl, inr}
+use Rattle.std.proofs.Common.{◌≡◌, ◌≢◌, ℕ, zero, suc, ◌^◌, ◌≤◌, ◌<◌, Bool, true, ltb, List, [], ◌∷◌, ◌++◌, length, map, refl, sym, ap, subst, ◌∙◌, append_assoc, arith, inl, inr}
 use Rattle.std.specs.Prelude.{◌&&◌}
 use Rattle.std.specs.List.{flat_map, list_all, AllByRecursion}
-use Rattle.std.specs.Ordering.{nat_cmp}
-use Rattle.std.specs.BTreeMap.{insert_entry}
 use Rattle.std.specs.Str.{IsUtf8, is_utf8}
 use Rattle.std.proofs.lemmas.Str.{IsUtf8-from_is_utf8}
-use Rattle.std.proofs.lemmas.Bool.{and_parts, ltb-true, le-ltb, ne_eqb}
-use Rattle.std.proofs.lemmas.List.{length-map, append-nil}
+use Rattle.std.proofs.lemmas.Bool.{and_parts, ltb-true}
+use Rattle.std.proofs.lemmas.List.{length-map}
 use Rattle.std.proofs.lemmas.List.Folds.{list_all-map}
 use Rattle.cbor_core.specs.declared.item.Item.{Item, fold-roll-Item, ind-Item, roll-Item, map-Item}
 use Rattle.cbor_core.specs.declared.item.Item.TheOpen.{Item-F}
@@ -126,6 +124,7 @@ unfoldable pub entries_of : List (Pair Item) → List (ℕ × Item)
 entries_of [] = []
 entries_of (p ∷ ps) = (p.key, p.value) ∷ entries_of ps
 
+-- entries that come of pairs give these pairs
 pub same_pairs : (ps : List (Pair Item)) → pairs_of (entries_of ps) ≡ ps
 unfolding entries_of
 same_pairs [] = refl
@@ -150,6 +149,7 @@ above_from k (p ∷ ps) h =
     let a = and_parts (ltb k p.key) (list_all (ltb k) (map (λ (q : Pair Item). q.key) ps)) h in
     (ltb-true k p.key a.0, above_from k ps a.1)
 
+-- pairs whose keys rise give entries that rise
 pub rising_from : (ps : List (Pair Item)) → rise (map (λ (p : Pair Item). p.key) ps) ≡ true → Rising (entries_of ps)
 unfolding entries_of
 rising_from [] h = tt

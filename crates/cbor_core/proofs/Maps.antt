@@ -1,7 +1,7 @@
 -- A map holds the entries that were put, by rising key, and no other list is that map.
-use Rattle.std.proofs.Common.{◌≡◌, ℕ, suc, ◌^◌, ◌<◌, Bool, true, false, ltb, List, [], ◌∷◌, ◌++◌, length, map, refl, sym, ap, subst, ◌∙◌, arith, inl, inr}
+use Rattle.std.proofs.Common.{◌≡◌, ℕ, suc, ◌^◌, ◌<◌, true, false, ltb, List, [], ◌∷◌, ◌++◌, length, map, refl, sym, ap, subst, ◌∙◌, arith, inl, inr}
 use Rattle.std.specs.Prelude.{◌⊎◌, Contains}
-use Rattle.std.specs.List.{list_all, AllByRecursion}
+use Rattle.std.specs.List.{list_all}
 use Rattle.std.specs.Ordering.{nat_cmp, match_ordering}
 use Rattle.std.specs.declared.cmp.Ordering.{Ordering}
 use Rattle.std.specs.declared.cmp.Ordering.TheVariants.{Less, Equal, Greater}
@@ -43,6 +43,7 @@ rising_put : (k : ℕ) (value : Item) (es : List (ℕ × Item)) → Rising es �
 rising_put k value [] r = (tt, tt)
 rising_put k value (e ∷ es) r = rising_put_by (nat_cmp k e.0) k value e es refl r (rising_put k value es r.1)
 
+-- entries that are put among rising ones rise
 pub rising_all : (es done : List (ℕ × Item)) → Rising done → Rising (put_all done es)
 rising_all [] done r = r
 rising_all (e ∷ es) done r = rising_all es (insert_entry nat_cmp done e.0 e.1) (rising_put e.0 e.1 done r)
@@ -56,6 +57,7 @@ above_rise : (k : ℕ) (es : List (ℕ × Item)) → Above k es → list_all (lt
 above_rise k [] a = refl
 above_rise k (e ∷ es) a = rw (lt-ltb k e.0 a.0) (above_rise k es a.1)
 
+-- the pairs of rising entries have keys that rise
 pub rising_rise : (es : List (ℕ × Item)) → Rising es → rise (map key_of (pairs_of es)) ≡ true
 rising_rise [] r = refl
 rising_rise (e ∷ es) r = rw (above_rise e.0 es r.0) (rising_rise es r.1)
@@ -187,6 +189,7 @@ map_is_put es ps m =
     let one : entries_of ps ≡ put_all [] es = rising_unique (entries_of ps) (put_all [] es) (rising_from ps m.2) (rising_all es [] tt) same in
     sym (same_pairs ps) ∙ ap pairs_of one
 
+-- entries that are put one after another are the map of these entries
 pub put_is_map : (es : List (ℕ × Item)) → KeysDiffer es → IsMapOf es (pairs_of (put_all [] es))
 put_is_map es d = (d, SameElements-map (λ (e : ℕ × Item). record { key = e.0; value = e.1 }) es (put_all [] es) (same_all es d), rising_rise (put_all [] es) (rising_all es [] tt))
 
@@ -194,8 +197,10 @@ put_is_map es d = (d, SameElements-map (λ (e : ℕ × Item). record { key = e.0
 abbrev pub EncodesPut : (Item → ℕ → List ℕ → Type 0) → Item → ℕ → List ℕ → Type 0
 EncodesPut spells item count bytes = (entries : List (ℕ × Item)) × (n : ℕ) × (rest : List ℕ) × (item ≡ v.Map (pairs_of (put_all [] entries))) × KeysDiffer entries × (length entries < 2 ^ 64) × EncodesEntries spells entries n rest × (count ≡ suc n) × (bytes ≡ head_of 5 (length entries) ++ rest)
 
+-- a map is spelled so where its entries are put one after another
 pub by_put : (spells : Item → ℕ → List ℕ → Type 0) (item : Item) (count : ℕ) (bytes : List ℕ) → EncodesMap spells item count bytes → EncodesPut spells item count bytes
 by_put spells item count bytes s = (s.0, s.2, s.3, s.4 ∙ ap (λ (ps : List (Pair Item)). v.Map ps) (map_is_put s.0 s.1 s.5), s.5.0, s.6, s.7, s.8, s.9)
 
+-- and entries that are put one after another spell a map
 pub from_put_all : (spells : Item → ℕ → List ℕ → Type 0) (item : Item) (count : ℕ) (bytes : List ℕ) → EncodesPut spells item count bytes → EncodesMap spells item count bytes
 from_put_all spells item count bytes s = (s.0, pairs_of (put_all [] s.0), s.1, s.2, s.3, put_is_map s.0 s.4, s.5, s.6, s.7, s.8)

@@ -1,17 +1,16 @@
 -- An item, and a whole input, is refused by the relation exactly where reading ends with this fault.
-use Rattle.std.proofs.Common.{◌≡◌, ◌≢◌, ℕ, zero, suc, ◌+◌, ◌-◌, ◌/◌, ◌%◌, ◌≤◌, ◌<◌, Bool, true, false, cond, eqb, ltb, List, [], ◌∷◌, ◌++◌, length, get_or, Result, Ok, Err, refl, sym, ap, subst, ◌∙◌, append_assoc, arith, inl, inr}
+use Rattle.std.proofs.Common.{◌≡◌, ℕ, zero, suc, ◌-◌, ◌/◌, ◌%◌, ◌<◌, true, false, ltb, List, [], ◌∷◌, ◌++◌, length, get_or, Ok, Err, refl, sym, ap, subst, ◌∙◌, append_assoc, arith, inl, inr}
 use Rattle.std.specs.Prelude.{◌⊎◌, ◌&&◌}
-use Rattle.std.proofs.lemmas.Bool.{cases_Bool, ltb-false, lt-ltb, le-ltb, eqb-true, eqb-false, ne_eqb, and_parts}
-use Rattle.std.proofs.lemmas.List.{length-append, length-drop}
+use Rattle.std.proofs.lemmas.Bool.{cases_Bool, lt-ltb, le-ltb}
 use Rattle.cbor_core.specs.declared.fault.CborFault.{CborFault}
 use Rattle.cbor_core.specs.declared.fault.CborFault.TheVariants as f
 use Rattle.cbor_core.specs.declared.item.Item.{Item}
 use Rattle.cbor_core.specs.declared.item.Item.TheVariants as v
-use Rattle.cbor_core.specs.Grammar.{IsBytes, head_of, IsString, Encodes, pairs_of}
-use Rattle.cbor_core.specs.Refusals.{Rest, IsBehind, IsBehindHead, RefusesHead, is_item, RefusesString, RefusesText, RefusesFlat, RefusesEach, RefusesEntries, RefusesInside, RefusesItem, IsRefused, IsTrailing, input_of}
+use Rattle.cbor_core.specs.Grammar.{IsBytes, head_of, Encodes, pairs_of}
+use Rattle.cbor_core.specs.Refusals.{Rest, IsBehind, IsBehindHead, RefusesHead, is_item, RefusesString, RefusesFlat, RefusesEach, RefusesEntries, RefusesInside, RefusesItem}
 use Rattle.cbor_core.specs.Internal.Results.{◌>>=◌}
-use Rattle.cbor_core.specs.Internal.Reading.{Reader, start_of, argument_at, string_at, whole_at, blob_at, text_string_at, flat_at, items_at, entries_at, list_at, map_at, item_at, reading}
-use Rattle.cbor_core.proofs.Outcomes.{same_err, took, stopped, passed_true}
+use Rattle.cbor_core.specs.Internal.Reading.{Reader, start_of, argument_at, whole_at, flat_at, items_at, entries_at, list_at, map_at, item_at}
+use Rattle.cbor_core.proofs.Outcomes.{same_err, stopped}
 use Rattle.cbor_core.proofs.Arguments.{head_first}
 use Rattle.cbor_core.proofs.Again.{Again, item_again}
 use Rattle.cbor_core.proofs.Found.{Takes, item_takes}

@@ -1,5 +1,5 @@
 -- An entry of a map is refused by the relation exactly where reading ends with this fault.
-use Rattle.std.proofs.Common.{◌≡◌, ◌≢◌, ℕ, zero, suc, ◌+◌, ◌-◌, ◌/◌, ◌%◌, ◌≤◌, ◌<◌, Bool, true, false, cond, eqb, ltb, List, [], ◌∷◌, ◌++◌, length, Result, Ok, Err, refl, sym, ap, subst, ◌∙◌, append_assoc, arith, inl, inr}
+use Rattle.std.proofs.Common.{◌≡◌, ℕ, zero, suc, ◌+◌, ◌-◌, ◌/◌, ◌%◌, ◌≤◌, ◌<◌, true, false, cond, eqb, ltb, List, [], ◌∷◌, ◌++◌, length, Result, Ok, Err, refl, sym, ap, ◌∙◌, append_assoc, arith, inl, inr}
 use Rattle.std.specs.Prelude.{◌⊎◌, ◌&&◌}
 use Rattle.std.specs.Ordering.{nat_cmp}
 use Rattle.std.specs.BTreeMap.{insert_entry}
@@ -8,8 +8,8 @@ use Rattle.std.proofs.lemmas.List.{length-append}
 use Rattle.cbor_core.specs.declared.fault.CborFault.{CborFault}
 use Rattle.cbor_core.specs.declared.fault.CborFault.TheVariants as f
 use Rattle.cbor_core.specs.declared.item.Item.{Item}
-use Rattle.cbor_core.specs.Grammar.{IsBytes, head_of, IsHead, EncodesEntries, KeysDiffer}
-use Rattle.cbor_core.specs.Refusals.{Rest, IsBehind, IsBehindHead, RefusesHead, is_key, LacksKey, RefusesEntry, RefusesEntries}
+use Rattle.cbor_core.specs.Grammar.{IsBytes, head_of, EncodesEntries, KeysDiffer}
+use Rattle.cbor_core.specs.Refusals.{Rest, IsBehind, IsBehindHead, RefusesHead, is_key, RefusesEntry, RefusesEntries}
 use Rattle.cbor_core.specs.Internal.Results.{◌>>=◌}
 use Rattle.cbor_core.specs.Internal.Reading.{Reader, start_of, argument_at, key_at, entries_at}
 use Rattle.cbor_core.proofs.Outcomes.{same_err, took, stopped}

@@ -1,19 +1,17 @@
 -- What is spelled may be written: its maps have rising keys, and it keeps the limits.
-use Rattle.std.proofs.Common.{◌≡◌, ℕ, zero, suc, ◌+◌, ◌≤◌, ◌<◌, Bool, true, false, ltb, List, [], ◌∷◌, map, refl, sym, ap, subst, ◌∙◌, arith, inl, inr}
+use Rattle.std.proofs.Common.{◌≡◌, ℕ, zero, suc, ◌+◌, ◌≤◌, Bool, true, false, List, [], ◌∷◌, refl, sym, ap, subst, ◌∙◌, arith, inl, inr}
 use Rattle.std.specs.List.{list_all, AllByRecursion}
 use Rattle.std.specs.Ordering.{nat_cmp, match_ordering}
 use Rattle.std.specs.declared.cmp.Ordering.{Ordering}
 use Rattle.std.specs.declared.cmp.Ordering.TheVariants.{Less, Equal, Greater}
 use Rattle.std.specs.BTreeMap.{insert_entry}
-use Rattle.std.proofs.lemmas.Bool.{true≢false, lt-ltb}
-use Rattle.std.proofs.lemmas.Cmp.{ranked}
+use Rattle.std.proofs.lemmas.Bool.{true≢false}
 use Rattle.cbor_core.specs.declared.item.Item.{Item, fold-roll-Item}
 use Rattle.cbor_core.specs.declared.item.Item.TheOpen.{Item-F}
 use Rattle.cbor_core.specs.declared.item.Item.TheVariants as v
 use Rattle.cbor_core.specs.declared.item.Pair.{Pair}
 use Rattle.cbor_core.specs.Grammar.{EncodesFlat, EncodesEach, EncodesEntries, EncodesList, EncodesMap, Encodes, KeysDiffer, pairs_of}
 use Rattle.cbor_core.specs.Writing.{sum_over, largest_over, nesting_step, item_nesting, count_of, keys_rise_step, keys_rise}
-use Rattle.base_types.specs.Order.{rise}
 use Rattle.cbor_core.proofs.Keys.{put_all, has, Fresh, fresh_after, fresh_at_first}
 use Rattle.cbor_core.proofs.Maps.{by_put, rising_all, rising_rise}
 use Rattle.cbor_core.proofs.Lawful.{nesting-List, nesting-Map, count-Whole, count-Blob, count-Text, count-List, count-Map, rise-List, rise-Map}

@@ -60,7 +60,8 @@ KeysDiffer (entry ∷ entries) =
 abbrev pub pairs_of : List (ℕ × Item) → List (Pair Item)
 pairs_of entries = map (λ e. record { key = e.0; value = e.1 }) entries
 
--- The pairs are those of a map with these entries: the same, by rising key. No key stands twice.
+-- The pairs are those of a map with these entries: the same, by rising key, which for whole numbers
+-- is the order of their encodings (RFC 8949, 4.2.1). No key stands twice.
 abbrev pub IsMapOf : List (ℕ × Item) → List (Pair Item) → Type 0
 IsMapOf entries pairs =
     KeysDiffer entries × SameElements (pairs_of entries) pairs

@@ -40,19 +40,13 @@ impl From<Memory> for CborFault {
 impl fmt::Display for CborFault {
     fn fmt<W: fmt::Write>(&self, f: &mut fmt::Formatter<W>) -> fmt::Result {
         match self {
-            CborFault::Truncated(at) => { write!(f, "the input ends at byte {at}, inside an item") }
-            CborFault::NotShortest(at) => {
-                write!(
-                    f,
-                    "the number in the head at byte {at} has a shorter spelling"
-                )
-            }
-            CborFault::Forbidden(at) => {
-                write!(f, "what begins at byte {at} may not stand there")
-            }
-            CborFault::RepeatedKey(at) => {
-                write!(f, "the key at byte {at} stands in its map before")
-            }
+            CborFault::Truncated(at) => write!(f, "the input ends at byte {at}, inside an item"),
+            CborFault::NotShortest(at) => write!(f, "the head at byte {at} has a shorter spelling"),
+            CborFault::Forbidden(at) => write!(f, "what begins at byte {at} may not stand there"),
+            CborFault::RepeatedKey(at) => write!(
+                f,
+                "the key at byte {at} stands in its map before"
+            ),
             CborFault::Trailing(at) => write!(f, "bytes follow the item, from byte {at} on"),
             CborFault::TooMany => write!(f, "more than 100,000 items begin"),
             CborFault::Memory => write!(f, "out of memory"),

@@ -471,7 +471,7 @@ fn lines_of_faults(rt: HostRuntime) -> Result<(), Fail> {
         ),
         (
             CborFault::NotShortest(0),
-            "the number in the head at byte 0 has a shorter spelling",
+            "the head at byte 0 has a shorter spelling",
         ),
         (
             CborFault::Forbidden(12),
@@ -492,6 +492,24 @@ fn lines_of_faults(rt: HostRuntime) -> Result<(), Fail> {
         let line = fault.to_string(rt.alloc())?;
         assert!(rt; line.as_str() == want);
     }
+    Ok(())
+}
+
+/// Keys are sorted as numbers and not as texts: 2 comes before 10.
+#[test]
+fn keys_are_sorted_as_numbers(rt: HostRuntime) -> Result<(), Fail> {
+    let spelled: &[u8] = b"\xa2\x0a\x40\x02\x80";
+    let item = decode(rt.alloc(), spelled).ok().ok_or("a map")?;
+    let Item::Map(pairs) = &item else {
+        return Err("no map".into());
+    };
+    let [first, second] = pairs.as_slice() else {
+        return Err("not two pairs".into());
+    };
+    assert!(rt; (first.key, second.key) == (2, 10));
+    let written = encode(rt.alloc(), &item).ok().ok_or("memory")?;
+    let by_keys: &[u8] = b"\xa2\x02\x80\x0a\x40";
+    assert!(rt; written.as_slice() == by_keys);
     Ok(())
 }
 
