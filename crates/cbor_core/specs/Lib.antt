@@ -3,3 +3,4 @@ pub mod Writing
 pub mod Equality
 pub mod Refusals
 pub mod Internal
+pub mod Lines

@@ -38,6 +38,11 @@ impl From<Memory> for CborFault {
 }
 
 impl fmt::Display for CborFault {
+    ghost use Rattle.std.specs.Prelude.{Some};
+    ghost use Rattle.cbor_core.specs.Lines.{fault_line};
+
+    ghost output = { λ fault. Some (fault_line fault) };
+
     fn fmt<W: fmt::Write>(&self, f: &mut fmt::Formatter<W>) -> fmt::Result {
         match self {
             CborFault::Truncated(at) => write!(f, "the input ends at byte {at}, inside an item"),

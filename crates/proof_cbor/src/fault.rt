@@ -50,35 +50,42 @@ impl From<Memory> for ValueFault {
 }
 
 impl fmt::Display for Part {
+    ghost use Rattle.std.specs.Prelude.{Some};
+    ghost use Rattle.proof_cbor.specs.Lines.{part_name};
+
+    ghost output = { λ part. Some (part_name part) };
+
     fn fmt<W: fmt::Write>(&self, f: &mut fmt::Formatter<W>) -> fmt::Result {
         match self {
-            Part::Array => write!(f, "list of parts"),
+            Part::Array => write!(f, "list of five parts"),
             Part::BaseSignature => write!(f, "base signature"),
             Part::PublicKey => write!(f, "public key"),
             Part::HmacKey => write!(f, "HMAC key"),
-            Part::Signatures => write!(f, "signatures"),
-            Part::Pointers => write!(f, "mandatory pointers"),
+            Part::Signatures => write!(f, "list of signatures"),
+            Part::Pointers => write!(f, "list of mandatory pointers"),
             Part::LabelMap => write!(f, "label map"),
-            Part::Indexes => write!(f, "mandatory indexes"),
+            Part::Indexes => write!(f, "list of mandatory indexes"),
         }
     }
 }
 
 impl fmt::Display for ValueFault {
+    ghost use Rattle.std.specs.Prelude.{Some};
+    ghost use Rattle.proof_cbor.specs.Lines.{value_line};
+
+    ghost output = { λ fault. Some (value_line fault) };
+
     fn fmt<W: fmt::Write>(&self, f: &mut fmt::Formatter<W>) -> fmt::Result {
         match self {
-            ValueFault::NotMultibase => {
-                write!(f, "the text is not `u` and base64url without padding")
-            }
-            ValueFault::Header => write!(
-                f,
-                "the value does not begin with the three bytes of its kind"
-            ),
+            ValueFault::NotMultibase => write!(f, "the text is not `u` and unpadded base64url"),
+            ValueFault::Header => write!(f, "the three bytes of the kind do not come first"),
             ValueFault::Cbor(fault) => write!(f, "behind the header, {fault}"),
-            ValueFault::Shape(Part::Array) => write!(f, "the value is no list of five parts"),
-            ValueFault::Shape(part) => write!(f, "in the {part}, an item has the wrong kind"),
+            ValueFault::Shape(part) => write!(
+                f,
+                "the {part}, or an item in it, has the wrong kind"
+            ),
             ValueFault::Length(part) => {
-                write!(f, "in the {part}, a byte string has the wrong length")
+                write!(f, "the {part}, or an item in it, has the wrong length")
             }
             ValueFault::Indexes => write!(f, "the mandatory indexes do not rise"),
             ValueFault::Memory => write!(f, "out of memory"),

@@ -462,11 +462,11 @@ fn lines_of_faults(rt: HostRuntime) -> Result<(), Fail> {
     let cases: [(ValueFault, &str); 8] = [
         (
             ValueFault::NotMultibase,
-            "the text is not `u` and base64url without padding",
+            "the text is not `u` and unpadded base64url",
         ),
         (
             ValueFault::Header,
-            "the value does not begin with the three bytes of its kind",
+            "the three bytes of the kind do not come first",
         ),
         (
             ValueFault::Cbor(CborFault::Truncated(3)),
@@ -478,11 +478,11 @@ fn lines_of_faults(rt: HostRuntime) -> Result<(), Fail> {
         ),
         (
             ValueFault::Shape(Part::Array),
-            "the value is no list of five parts",
+            "the list of five parts, or an item in it, has the wrong kind",
         ),
         (
             ValueFault::Length(Part::HmacKey),
-            "in the HMAC key, a byte string has the wrong length",
+            "the HMAC key, or an item in it, has the wrong length",
         ),
         (ValueFault::Indexes, "the mandatory indexes do not rise"),
         (ValueFault::Memory, "out of memory"),
@@ -500,28 +500,31 @@ fn lines_of_parts(rt: HostRuntime) -> Result<(), Fail> {
     let cases: [(Part, &str); 7] = [
         (
             Part::BaseSignature,
-            "in the base signature, an item has the wrong kind",
+            "the base signature, or an item in it, has the wrong kind",
         ),
         (
             Part::PublicKey,
-            "in the public key, an item has the wrong kind",
+            "the public key, or an item in it, has the wrong kind",
         ),
-        (Part::HmacKey, "in the HMAC key, an item has the wrong kind"),
+        (
+            Part::HmacKey,
+            "the HMAC key, or an item in it, has the wrong kind",
+        ),
         (
             Part::Signatures,
-            "in the signatures, an item has the wrong kind",
+            "the list of signatures, or an item in it, has the wrong kind",
         ),
         (
             Part::Pointers,
-            "in the mandatory pointers, an item has the wrong kind",
+            "the list of mandatory pointers, or an item in it, has the wrong kind",
         ),
         (
             Part::LabelMap,
-            "in the label map, an item has the wrong kind",
+            "the label map, or an item in it, has the wrong kind",
         ),
         (
             Part::Indexes,
-            "in the mandatory indexes, an item has the wrong kind",
+            "the list of mandatory indexes, or an item in it, has the wrong kind",
         ),
     ];
     for (part, want) in cases {
@@ -529,6 +532,6 @@ fn lines_of_parts(rt: HostRuntime) -> Result<(), Fail> {
         assert!(rt; line.as_str() == want);
     }
     let list = Part::Array.to_string(rt.alloc())?;
-    assert!(rt; list.as_str() == "list of parts");
+    assert!(rt; list.as_str() == "list of five parts");
     Ok(())
 }
