@@ -20,9 +20,8 @@ pub struct BaseValue {
 impl PartialEq for BaseValue {
     ghost use Rattle.std.specs.Prelude.{nat_eq};
     ghost use Rattle.std.specs.Ordering.{on, eq_of_both};
-    ghost use Rattle.std.specs.Cmp.Lexicographic.{pointwise};
-    ghost use Rattle.std.specs.Cmp.Rules.{comparing};
-    ghost use Rattle.std.proofs.Common.{rules};
+    ghost use Rattle.std.specs.Cmp.{partial_equiv_from_equiv, and_equiv, on_equiv, nat_eq_equiv};
+    ghost use Rattle.std.specs.Cmp.Lexicographic.{pointwise, lists_equiv};
 
     ghost eq = { eq_of_both (on (λ v. v.signature) (pointwise nat_eq))
         (eq_of_both (on (λ v. v.key) (pointwise nat_eq))
@@ -30,7 +29,12 @@ impl PartialEq for BaseValue {
         (eq_of_both (on (λ v. v.signatures) (pointwise (pointwise nat_eq)))
         (on (λ v. v.pointers) (pointwise (pointwise nat_eq)))))) };
 
-    ghost laws = { Prim.search (comparing, rules) };
+    ghost laws = { partial_equiv_from_equiv
+        (and_equiv (on_equiv (λ v. v.signature) (lists_equiv nat_eq_equiv))
+        (and_equiv (on_equiv (λ v. v.key) (lists_equiv nat_eq_equiv))
+        (and_equiv (on_equiv (λ v. v.secret) (lists_equiv nat_eq_equiv))
+        (and_equiv (on_equiv (λ v. v.signatures) (lists_equiv (lists_equiv nat_eq_equiv)))
+        (on_equiv (λ v. v.pointers) (lists_equiv (lists_equiv nat_eq_equiv))))))) };
 
     fn eq(&self, other: &BaseValue) -> bool {
         self.signature == other.signature
@@ -42,10 +46,14 @@ impl PartialEq for BaseValue {
 }
 
 impl Eq for BaseValue {
-    ghost use Rattle.std.specs.Cmp.Rules.{comparing};
-    ghost use Rattle.std.proofs.Common.{rules};
+    ghost use Rattle.std.specs.Cmp.{and_equiv, on_equiv, nat_eq_equiv};
+    ghost use Rattle.std.specs.Cmp.Lexicographic.{lists_equiv};
 
-    ghost laws = { Prim.search (comparing, rules) };
+    ghost laws = { and_equiv (on_equiv (λ v. v.signature) (lists_equiv nat_eq_equiv))
+        (and_equiv (on_equiv (λ v. v.key) (lists_equiv nat_eq_equiv))
+        (and_equiv (on_equiv (λ v. v.secret) (lists_equiv nat_eq_equiv))
+        (and_equiv (on_equiv (λ v. v.signatures) (lists_equiv (lists_equiv nat_eq_equiv)))
+        (on_equiv (λ v. v.pointers) (lists_equiv (lists_equiv nat_eq_equiv)))))) };
 }
 
 /// One entry of a label map: the number of a canonical label, and the digest that stands for it.
@@ -73,9 +81,8 @@ pub struct DerivedValue {
 impl PartialEq for DerivedValue {
     ghost use Rattle.std.specs.Prelude.{nat_eq};
     ghost use Rattle.std.specs.Ordering.{on, eq_of_both};
-    ghost use Rattle.std.specs.Cmp.Lexicographic.{pointwise};
-    ghost use Rattle.std.specs.Cmp.Rules.{comparing};
-    ghost use Rattle.std.proofs.Common.{rules};
+    ghost use Rattle.std.specs.Cmp.{partial_equiv_from_equiv, and_equiv, on_equiv, nat_eq_equiv};
+    ghost use Rattle.std.specs.Cmp.Lexicographic.{pointwise, lists_equiv};
 
     ghost eq = { eq_of_both (on (λ v. v.signature) (pointwise nat_eq))
         (eq_of_both (on (λ v. v.key) (pointwise nat_eq))
@@ -84,7 +91,14 @@ impl PartialEq for DerivedValue {
         (eq_of_both (on (λ e. e.number) nat_eq) (on (λ e. e.digest) (pointwise nat_eq)))))
         (on (λ v. v.indexes) (pointwise nat_eq))))) };
 
-    ghost laws = { Prim.search (comparing, rules) };
+    ghost laws = { partial_equiv_from_equiv
+        (and_equiv (on_equiv (λ v. v.signature) (lists_equiv nat_eq_equiv))
+        (and_equiv (on_equiv (λ v. v.key) (lists_equiv nat_eq_equiv))
+        (and_equiv (on_equiv (λ v. v.signatures) (lists_equiv (lists_equiv nat_eq_equiv)))
+        (and_equiv (on_equiv (λ v. v.labels) (lists_equiv
+        (and_equiv (on_equiv (λ e. e.number) nat_eq_equiv)
+        (on_equiv (λ e. e.digest) (lists_equiv nat_eq_equiv)))))
+        (on_equiv (λ v. v.indexes) (lists_equiv nat_eq_equiv)))))) };
 
     fn eq(&self, other: &DerivedValue) -> bool {
         self.signature == other.signature
@@ -96,8 +110,14 @@ impl PartialEq for DerivedValue {
 }
 
 impl Eq for DerivedValue {
-    ghost use Rattle.std.specs.Cmp.Rules.{comparing};
-    ghost use Rattle.std.proofs.Common.{rules};
+    ghost use Rattle.std.specs.Cmp.{and_equiv, on_equiv, nat_eq_equiv};
+    ghost use Rattle.std.specs.Cmp.Lexicographic.{lists_equiv};
 
-    ghost laws = { Prim.search (comparing, rules) };
+    ghost laws = { and_equiv (on_equiv (λ v. v.signature) (lists_equiv nat_eq_equiv))
+        (and_equiv (on_equiv (λ v. v.key) (lists_equiv nat_eq_equiv))
+        (and_equiv (on_equiv (λ v. v.signatures) (lists_equiv (lists_equiv nat_eq_equiv)))
+        (and_equiv (on_equiv (λ v. v.labels) (lists_equiv
+        (and_equiv (on_equiv (λ e. e.number) nat_eq_equiv)
+        (on_equiv (λ e. e.digest) (lists_equiv nat_eq_equiv)))))
+        (on_equiv (λ v. v.indexes) (lists_equiv nat_eq_equiv))))) };
 }
