@@ -9,10 +9,11 @@ use Rattle.std.proofs.lemmas.Bool.{le-ltb, ne_eqb}
 use Rattle.std.proofs.lemmas.List.{take_at, drop_at, length-append, append-nil}
 use Rattle.cbor_core.specs.declared.item.Item.{Item}
 use Rattle.cbor_core.specs.declared.item.Item.TheVariants as v
-use Rattle.cbor_core.specs.Grammar.{head_of, IsHead, EncodesFlat, EncodesEach, EncodesEntries, EncodesList, EncodesMap, Encodes, KeysDiffer, put_all}
+use Rattle.cbor_core.specs.Grammar.{head_of, IsHead, EncodesFlat, EncodesEach, EncodesEntries, EncodesList, EncodesMap, Encodes, KeysDiffer}
 use Rattle.cbor_core.specs.Internal.Reading.{Reader, argument_at, string_at, whole_at, blob_at, text_string_at, flat_at, items_at, list_at, key_at, entries_at, map_at, item_at}
 use Rattle.cbor_core.proofs.Arguments.{argument_again, head_first}
-use Rattle.cbor_core.proofs.Keys.{Fresh, fresh_after, fresh_at_first}
+use Rattle.cbor_core.proofs.Maps.{by_put, EncodesPut}
+use Rattle.cbor_core.proofs.Keys.{put_all, Fresh, fresh_after, fresh_at_first}
 use Rattle.cbor_core.proofs.ReadingLoops.{item_as_list, item_as_map, item_as_flat}
 
 -- a string spelled at the front of the bytes reads as its content
@@ -125,10 +126,10 @@ module _ (total : ℕ) (inner : Reader) (spells : Item → ℕ → List ℕ → 
       let each = items_again items [] left n tail rest s.5 (omega arith) in
       rw (s.7, append_assoc (head_of 4 (length items)) tail rest) (first.0, first.1, rw (head, each, ← s.3, cnt) refl)
 
-  map_again : (left : ℕ) (item : Item) (count : ℕ) (text rest : List ℕ) → EncodesMap spells item (suc count) text → count ≤ left
+  put_again : (left : ℕ) (item : Item) (count : ℕ) (text rest : List ℕ) → EncodesPut spells item (suc count) text → count ≤ left
       → (0 < length (text ++ rest)) × (get_or (text ++ rest) 0 0 / 32 ≡ 5) × (map_at total inner left (text ++ rest) ≡ Ok (item, left - count, rest))
   unfolding map_at
-  map_again left item count text rest s le =
+  put_again left item count text rest s le =
       let entries = s.0 in
       let n = s.1 in
       let tail = s.2 in
@@ -137,6 +138,10 @@ module _ (total : ℕ) (inner : Reader) (spells : Item → ℕ → List ℕ → 
       let head = argument_again total 5 (length entries) (tail ++ rest) s.5 in
       let each = entries_again entries [] left n tail rest s.6 s.4 (fresh_at_first entries) (omega arith) in
       rw (s.8, append_assoc (head_of 5 (length entries)) tail rest) (first.0, first.1, rw (head, each, ← s.3, cnt) refl)
+
+  map_again : (left : ℕ) (item : Item) (count : ℕ) (text rest : List ℕ) → EncodesMap spells item (suc count) text → count ≤ left
+      → (0 < length (text ++ rest)) × (get_or (text ++ rest) 0 0 / 32 ≡ 5) × (map_at total inner left (text ++ rest) ≡ Ok (item, left - count, rest))
+  map_again left item count text rest s le = put_again left item count text rest (by_put spells item (suc count) text s) le
 
 -- ---- an item
 
@@ -148,7 +153,7 @@ flat_item total levels left item count text rest s one le =
 -- a list and a map count one more than what they hold
 counted : (spells : Item → ℕ → List ℕ → Type 0) (item : Item) (count : ℕ) (text : List ℕ) → EncodesList spells item count text ⊎ EncodesMap spells item count text → (n : ℕ) × (count ≡ suc n)
 counted spells item count text (inl s) = (s.1, s.6)
-counted spells item count text (inr s) = (s.1, s.7)
+counted spells item count text (inr s) = (s.2, s.8)
 
 nested_item : (total levels left : ℕ) (item : Item) (n : ℕ) (text rest : List ℕ) → Again (item_at total levels) (Encodes levels) → suc n ≤ left → EncodesList (Encodes levels) item (suc n) text ⊎ EncodesMap (Encodes levels) item (suc n) text → item_at total (suc levels) left (text ++ rest) ≡ Ok (item, left - 1 - n, rest)
 nested_item total levels left item n text rest again le (inl s) =

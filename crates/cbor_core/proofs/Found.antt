@@ -1,5 +1,5 @@
 -- What is read is spelled by the bytes that were taken.
-use Rattle.std.proofs.Common.{◌≡◌, ℕ, zero, suc, ◌+◌, ◌-◌, ◌/◌, ◌^◌, ◌≤◌, ◌<◌, Bool, true, false, cond, eqb, ltb, List, [], ◌∷◌, ◌++◌, length, get_or, take, drop, Result, Ok, Err, refl, sym, ap, subst, ◌∙◌, append_assoc, arith, inl, inr}
+use Rattle.std.proofs.Common.{◌≡◌, ℕ, zero, suc, ◌+◌, ◌-◌, ◌/◌, ◌^◌, ◌≤◌, ◌<◌, cond, eqb, ltb, List, [], ◌∷◌, ◌++◌, length, get_or, take, drop, Result, Ok, Err, refl, sym, ap, subst, ◌∙◌, append_assoc, arith, inl, inr}
 use Rattle.std.specs.Prelude.{◌⊎◌}
 use Rattle.std.specs.Ordering.{nat_cmp}
 use Rattle.std.specs.BTreeMap.{insert_entry}
@@ -11,12 +11,13 @@ use Rattle.cbor_core.specs.declared.fault.CborFault.{CborFault}
 use Rattle.cbor_core.specs.declared.fault.CborFault.TheVariants as f
 use Rattle.cbor_core.specs.declared.item.Item.{Item}
 use Rattle.cbor_core.specs.declared.item.Item.TheVariants as v
-use Rattle.cbor_core.specs.Grammar.{IsBytes, head_of, IsHead, IsString, EncodesFlat, EncodesEach, EncodesEntries, EncodesList, EncodesMap, Encodes, KeysDiffer, put_all, pairs_of}
+use Rattle.cbor_core.specs.Grammar.{IsBytes, head_of, IsHead, IsString, EncodesFlat, EncodesEach, EncodesEntries, EncodesList, EncodesMap, Encodes, KeysDiffer, pairs_of}
 use Rattle.cbor_core.specs.Internal.Results.{◌>>=◌}
 use Rattle.cbor_core.specs.Internal.Reading.{Reader, start_of, argument_at, string_at, whole_at, blob_at, text_string_at, flat_at, items_at, list_at, key_at, entries_at, map_at, item_at}
 use Rattle.cbor_core.proofs.Arguments.{IsBytes-drop, argument_takes}
 use Rattle.cbor_core.proofs.Outcomes.{same_ok, took, passed, passed_true, went_on}
-use Rattle.cbor_core.proofs.Keys.{has, Fresh, fresh_before}
+use Rattle.cbor_core.proofs.Maps.{from_put_all}
+use Rattle.cbor_core.proofs.Keys.{put_all, has, Fresh, fresh_before}
 
 -- ---- strings
 
@@ -246,7 +247,7 @@ module _ (total : ℕ) (inner : Reader) (spells : Item → ℕ → List ℕ → 
       (record {
         count = t.count;
         text = head_of 5 (length t.entries) ++ t.text;
-        spelled = inr (t.entries, t.count, t.text, ap (λ (es : List (ℕ × Item)). v.Map (pairs_of es)) t.whole, t.differ, below, t.spelled, refl, refl);
+        spelled = inr (from_put_all spells _ _ _ (t.entries, t.count, t.text, ap (λ (es : List (ℕ × Item)). v.Map (pairs_of es)) t.whole, t.differ, below, t.spelled, refl, refl));
         parts = parts;
         spent = t.spent;
         fits = t.fits;

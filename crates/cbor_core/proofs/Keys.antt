@@ -10,7 +10,11 @@ use Rattle.std.specs.BTreeMap.{is_at, insert_entry}
 use Rattle.std.proofs.lemmas.Bool.{false≢true}
 use Rattle.std.proofs.lemmas.Bool.Decides.{nat_tests}
 use Rattle.cbor_core.specs.declared.item.Item.{Item}
-use Rattle.cbor_core.specs.Grammar.{put_all}
+
+-- the entries, put one after another each at its place by key among those before
+abbrev pub put_all : List (ℕ × Item) → List (ℕ × Item) → List (ℕ × Item)
+put_all done [] = done
+put_all done (entry ∷ entries) = put_all (insert_entry nat_cmp done entry.0 entry.1) entries
 
 -- whether a map has the key
 abbrev pub has : ℕ → List (ℕ × Item) → Bool

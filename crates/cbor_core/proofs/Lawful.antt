@@ -1,21 +1,21 @@
 -- The spelling of an item that may be written spells it.
-use Rattle.std.proofs.Common.{◌≡◌, ◌≢◌, ℕ, zero, suc, ◌^◌, ◌≤◌, ◌<◌, Bool, true, false, ltb, List, [], ◌∷◌, ◌++◌, length, map, refl, sym, ap, subst, ◌∙◌, append_assoc, arith, inl, inr}
+use Rattle.std.proofs.Common.{◌≡◌, ◌≢◌, ℕ, zero, suc, ◌^◌, ◌≤◌, ◌<◌, Bool, true, ltb, List, [], ◌∷◌, ◌++◌, length, map, refl, sym, ap, subst, ◌∙◌, append_assoc, arith, inl, inr}
 use Rattle.std.specs.Prelude.{◌&&◌}
 use Rattle.std.specs.List.{flat_map, list_all, AllByRecursion}
-use Rattle.std.specs.Ordering.{nat_cmp}
-use Rattle.std.specs.BTreeMap.{insert_entry}
 use Rattle.std.specs.Str.{IsUtf8, is_utf8}
 use Rattle.std.proofs.lemmas.Str.{IsUtf8-from_is_utf8}
-use Rattle.std.proofs.lemmas.Bool.{and_parts, ltb-true, le-ltb, ne_eqb}
-use Rattle.std.proofs.lemmas.List.{length-map, append-nil}
+use Rattle.std.proofs.lemmas.Bool.{and_parts, ltb-true}
+use Rattle.std.proofs.lemmas.List.{length-map}
 use Rattle.std.proofs.lemmas.List.Folds.{list_all-map}
 use Rattle.cbor_core.specs.declared.item.Item.{Item, fold-roll-Item, ind-Item, roll-Item, map-Item}
 use Rattle.cbor_core.specs.declared.item.Item.TheOpen.{Item-F}
 use Rattle.cbor_core.specs.declared.item.Item.TheVariants as v
 use Rattle.cbor_core.specs.declared.item.Pair.{Pair}
-use Rattle.cbor_core.specs.Grammar.{head_of, EncodesFlat, EncodesEach, EncodesEntries, Encodes, KeysDiffer, put_all, pairs_of}
+use Rattle.cbor_core.specs.Grammar.{head_of, EncodesFlat, EncodesEach, EncodesEntries, Encodes, KeysDiffer, pairs_of}
 use Rattle.cbor_core.specs.Writing.{sum_over, largest_over, encoding_of, nesting_step, item_nesting, count_step, count_of, keys_rise_step, keys_rise, fits_step, fits}
 use Rattle.base_types.specs.Order.{rise}
+use Rattle.base_types.specs.Sets.{SameElements}
+use Rattle.base_types.proofs.Lists.{SameElements-refl}
 use Rattle.cbor_core.proofs.Writes.{seen, sum_over-map, largest_over-map, spelling-Whole, spelling-Blob, spelling-Text, spelling-List, spelling-Map}
 
 -- ---- induction on items
@@ -120,11 +120,12 @@ of-Map ps h =
 
 -- ---- entries whose keys rise
 
-entries_of : List (Pair Item) → List (ℕ × Item)
+unfoldable pub entries_of : List (Pair Item) → List (ℕ × Item)
 entries_of [] = []
 entries_of (p ∷ ps) = (p.key, p.value) ∷ entries_of ps
 
-same_pairs : (ps : List (Pair Item)) → pairs_of (entries_of ps) ≡ ps
+-- entries that come of pairs give these pairs
+pub same_pairs : (ps : List (Pair Item)) → pairs_of (entries_of ps) ≡ ps
 unfolding entries_of
 same_pairs [] = refl
 same_pairs (p ∷ ps) = ap (λ (z : List (Pair Item)). p ∷ z) (same_pairs ps)
@@ -137,9 +138,6 @@ same_length (p ∷ ps) = ap suc (same_length ps)
 abbrev pub Above : ℕ → List (ℕ × Item) → Type 0
 Above key entries = AllByRecursion (λ (e : ℕ × Item). key < e.0) entries
 
-abbrev Below : List (ℕ × Item) → ℕ → Type 0
-Below entries key = AllByRecursion (λ (e : ℕ × Item). e.0 < key) entries
-
 abbrev pub Rising : List (ℕ × Item) → Type 0
 Rising [] = Unit {0}
 Rising (e ∷ es) = Above e.0 es × Rising es
@@ -151,7 +149,8 @@ above_from k (p ∷ ps) h =
     let a = and_parts (ltb k p.key) (list_all (ltb k) (map (λ (q : Pair Item). q.key) ps)) h in
     (ltb-true k p.key a.0, above_from k ps a.1)
 
-rising_from : (ps : List (Pair Item)) → rise (map (λ (p : Pair Item). p.key) ps) ≡ true → Rising (entries_of ps)
+-- pairs whose keys rise give entries that rise
+pub rising_from : (ps : List (Pair Item)) → rise (map (λ (p : Pair Item). p.key) ps) ≡ true → Rising (entries_of ps)
 unfolding entries_of
 rising_from [] h = tt
 rising_from (p ∷ ps) h =
@@ -165,35 +164,6 @@ others_differ k (e ∷ es) h = ((λ same. absurd (omega (arith, h.0, same))), ot
 keys_differ : (es : List (ℕ × Item)) → Rising es → KeysDiffer es
 keys_differ [] h = tt
 keys_differ (e ∷ es) h = (others_differ e.0 es h.0, keys_differ es h.1)
-
--- what is put behind all others stands at the end
-put_last : (done : List (ℕ × Item)) (k : ℕ) (value : Item) → Below done k → insert_entry nat_cmp done k value ≡ done ++ (k, value) ∷ []
-put_last [] k value h = refl
-put_last (d ∷ done) k value h =
-    let lt : d.0 < k = h.0 in
-    let less : ltb k d.0 ≡ false = le-ltb k d.0 (omega arith) in
-    let same : (k ≡ d.0) → ⊥ = λ e. absurd (omega arith) in
-    rw (less, ne_eqb k d.0 same) (ap (λ (z : List (ℕ × Item)). d ∷ z) (put_last done k value h.1))
-
-below_push : (done : List (ℕ × Item)) (e : ℕ × Item) (k : ℕ) → Below done k → e.0 < k → Below (done ++ e ∷ []) k
-below_push [] e k h lt = (lt, tt)
-below_push (d ∷ done) e k h lt = (h.0, below_push done e k h.1 lt)
-
-abbrev After : List (ℕ × Item) → List (ℕ × Item) → Type 0
-After done entries = AllByRecursion (λ (e : ℕ × Item). Below done e.0) entries
-
-after_push : (done : List (ℕ × Item)) (e : ℕ × Item) (es : List (ℕ × Item)) → After done es → Above e.0 es → After (done ++ e ∷ []) es
-after_push done e [] h a = tt
-after_push done e (x ∷ es) h a = (below_push done e x.0 h.0 a.0, after_push done e es h.1 a.1)
-
-put_rising : (es done : List (ℕ × Item)) → Rising es → After done es → put_all done es ≡ done ++ es
-put_rising [] done r h = sym (append-nil done)
-put_rising (e ∷ es) done r h =
-    rw (put_last done e.0 e.1 h.0) (put_rising es (done ++ e ∷ []) r.1 (after_push done e es h.1 r.0) ∙ append_assoc done (e ∷ []) es)
-
-after_none : (es : List (ℕ × Item)) → After [] es
-after_none [] = tt
-after_none (e ∷ es) = (tt, after_none es)
 
 -- ---- what is written is spelled so
 
@@ -254,11 +224,10 @@ map_spelled ps e (suc levels) n r f =
     let a = and_parts (rise (map (λ (p : Pair Item). p.key) ps)) (list_all (λ (p : Pair Item). keys_rise p.value) ps) (sym (rise-Map ps) ∙ r) in
     let rising = rising_from ps a.0 in
     let within : largest_over (λ (p : Pair Item). item_nesting p.value) ps ≤ levels = omega (arith, nesting-Map ps) in
-    let put : put_all [] (entries_of ps) ≡ entries_of ps = put_rising (entries_of ps) [] rising (after_none (entries_of ps)) in
-    let is : v.Map ps ≡ v.Map (pairs_of (put_all [] (entries_of ps))) = ap (λ (qs : List (Pair Item)). v.Map qs) (sym (ap pairs_of put ∙ same_pairs ps)) in
+    let same : SameElements (pairs_of (entries_of ps)) ps = subst (λ (qs : List (Pair Item)). SameElements qs ps) (sym (same_pairs ps)) (SameElements-refl ps) in
     let long : length (entries_of ps) < 2 ^ 64 = omega (arith, same_length ps, o.0) in
     let text : encoding_of (v.Map ps) ≡ head_of 5 (length (entries_of ps)) ++ flat_map (λ (p : Pair Item). head_of 0 p.key ++ encoding_of p.value) ps = rw (same_length ps) (spelling-Map ps) in
-    inr (inr (entries_of ps, sum_over (λ (p : Pair Item). suc (count_of p.value)) ps, flat_map (λ (p : Pair Item). head_of 0 p.key ++ encoding_of p.value) ps, is, keys_differ (entries_of ps) rising, long, entries_spelled levels ps e within a.1 o.1, count-Map ps, text))
+    inr (inr (entries_of ps, ps, sum_over (λ (p : Pair Item). suc (count_of p.value)) ps, flat_map (λ (p : Pair Item). head_of 0 p.key ++ encoding_of p.value) ps, refl, (keys_differ (entries_of ps) rising, same, a.0), long, entries_spelled levels ps e within a.1 o.1, count-Map ps, text))
 
 -- an item that fits, with keys that rise, is spelled by its encoding
 pub spelled : (item : Item) → Spelled item

@@ -12,3 +12,5 @@ pub mod Refusing
 pub mod RefusingMaps
 pub mod RefusingItems
 pub mod MoreBytes
+pub mod Maps
+pub mod EqualItems

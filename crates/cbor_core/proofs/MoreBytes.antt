@@ -1,5 +1,5 @@
 -- What follows an input that is refused: its end is the fault, or nothing that follows mends it.
-use Rattle.std.proofs.Common.{◌≡◌, ℕ, zero, suc, ◌+◌, ◌^◌, ◌≤◌, ◌<◌, List, [], ◌∷◌, ◌++◌, length, take, refl, sym, ap, ◌∙◌, append_assoc, arith, inl, inr}
+use Rattle.std.proofs.Common.{◌≡◌, ℕ, zero, suc, ◌+◌, ◌^◌, List, [], ◌∷◌, ◌++◌, length, ap, ◌∙◌, append_assoc, arith, inl, inr}
 use Rattle.std.specs.Prelude.{◌⊎◌, Bool}
 use Rattle.std.specs.Int.{Width, w8, w16, w32, w64, byte_len, from_be_bytes}
 use Rattle.std.proofs.lemmas.List.{length-append, take-append-le}
@@ -7,7 +7,7 @@ use Rattle.cbor_core.specs.declared.fault.CborFault.{CborFault}
 use Rattle.cbor_core.specs.declared.fault.CborFault.TheVariants as f
 use Rattle.cbor_core.specs.declared.item.Item.{Item}
 use Rattle.cbor_core.specs.Grammar.{head_of, Encodes}
-use Rattle.cbor_core.specs.Refusals.{Rest, IsBehind, IsBehindHead, IsTruncated, RefusesWidth, RefusesArgument, RefusesHead, is_item, is_key, RefusesFlat, RefusesEach, RefusesEntry, RefusesEntries, RefusesInside, RefusesItem}
+use Rattle.cbor_core.specs.Refusals.{Rest, IsBehind, IsTruncated, RefusesWidth, RefusesArgument, RefusesHead, is_item, is_key, RefusesFlat, RefusesEach, RefusesEntry, RefusesEntries, RefusesInside, RefusesItem}
 
 abbrev pub longer : Rest → List ℕ → Rest
 longer rest more = record { left = rest.left; at = rest.at; bytes = rest.bytes ++ more }

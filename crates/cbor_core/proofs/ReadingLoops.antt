@@ -6,7 +6,7 @@ use Rattle.std.specs.Map.{lookup}
 use Rattle.std.specs.BTreeMap.{is_at, insert_entry}
 use Rattle.std.specs.Str.{IsUtf8, is_utf8}
 use Rattle.std.proofs.lemmas.Str.{IsUtf8-from_is_utf8, is_utf8-from_IsUtf8}
-use Rattle.std.proofs.lemmas.Bool.{eqb-true}
+use Rattle.std.proofs.lemmas.Bool.{ne_eqb, false_from_ne_true}
 use Rattle.cbor_core.specs.declared.fault.CborFault.{CborFault}
 use Rattle.cbor_core.specs.declared.fault.CborFault.TheVariants as f
 use Rattle.cbor_core.specs.declared.item.Item.{Item}
@@ -16,18 +16,11 @@ use Rattle.cbor_core.specs.Internal.Results.{◌>>=◌, Fails}
 use Rattle.cbor_core.proofs.Outcomes.{fails_on}
 use Rattle.cbor_core.specs.Internal.Reading.{is_memory, Reader, start_of, items_at, key_at, entries_at, flat_at, list_at, map_at, item_at}
 
-isnt_true : (b : Bool) → (b ≡ true → ⊥) → b ≡ false
-isnt_true true h = absurd (h refl)
-isnt_true false h = refl
-
-neq-eqb : (a b : ℕ) → a ≢ b → eqb a b ≡ false
-neq-eqb a b ne = isnt_true (eqb a b) (λ e. ne (eqb-true a b e))
-
 -- ---- texts
 
 -- bytes that are not UTF-8 fail the test for it
 pub text_refused : (bytes : List ℕ) → ¬ (IsUtf8 bytes) → is_utf8 bytes ≡ false
-text_refused bytes h = isnt_true (is_utf8 bytes) (λ e. h (IsUtf8-from_is_utf8 bytes e))
+text_refused bytes h = false_from_ne_true (is_utf8 bytes) (λ e. h (IsUtf8-from_is_utf8 bytes e))
 
 pub ruleset text_steps = (text_refused, is_utf8-from_IsUtf8)
 
@@ -121,7 +114,7 @@ pub ruleset pairs_steps = (pairs_more, append_assoc)
 
 module _ (total left : ℕ) (some : 0 < left) where
   left_some : eqb left 0 ≡ false
-  left_some = neq-eqb left 0 (omega arith)
+  left_some = ne_eqb left 0 (omega arith)
 
   pub item_as_list : (bytes : List ℕ) (levels : ℕ) → 0 < length bytes → 0 < levels → get_or bytes 0 0 / 32 ≡ 4 → item_at total levels left bytes ≡ list_at total (item_at total (levels - 1)) (left - 1) bytes
   unfolding item_at
@@ -140,8 +133,8 @@ module _ (total left : ℕ) (some : 0 < left) where
   item_as_flat [] levels has n4 n5 = absurd (omega arith)
   item_as_flat (b ∷ bytes) zero has n4 n5 = rw left_some refl
   item_as_flat (b ∷ bytes) (suc n) has n4 n5 =
-      let m4 : eqb (b / 32) 4 ≡ false = neq-eqb (b / 32) 4 (n4 (omega arith)) in
-      let m5 : eqb (b / 32) 5 ≡ false = neq-eqb (b / 32) 5 (n5 (omega arith)) in
+      let m4 : eqb (b / 32) 4 ≡ false = ne_eqb (b / 32) 4 (n4 (omega arith)) in
+      let m5 : eqb (b / 32) 5 ≡ false = ne_eqb (b / 32) 5 (n5 (omega arith)) in
       rw (left_some, m4, m5) refl
 
 -- where no byte is left an item is cut short

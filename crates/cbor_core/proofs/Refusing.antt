@@ -1,39 +1,27 @@
 -- An input is refused by the relation exactly where reading ends with this fault.
-use Rattle.std.proofs.Common.{◌≡◌, ◌≢◌, ℕ, zero, suc, ◌+◌, ◌-◌, ◌/◌, ◌%◌, ◌^◌, ◌≤◌, ◌<◌, Bool, true, false, cond, eqb, ltb, List, [], ◌∷◌, ◌++◌, length, get_or, take, drop, Result, Ok, Err, refl, sym, ap, subst, ◌∙◌, append_assoc, arith, inl, inr}
+use Rattle.std.proofs.Common.{◌≡◌, ◌≢◌, ℕ, zero, suc, ◌+◌, ◌-◌, ◌/◌, ◌%◌, ◌^◌, ◌≤◌, ◌<◌, true, false, cond, eqb, ltb, List, [], ◌∷◌, ◌++◌, length, take, drop, Result, Ok, Err, refl, sym, ap, subst, ◌∙◌, append_assoc, arith, inl, inr}
 use Rattle.std.specs.Prelude.{◌⊎◌, ◌&&◌, ◌||◌}
 use Rattle.std.specs.Int.{Width, w8, w16, w32, w64, byte_len, from_be_bytes}
 use Rattle.std.specs.Str.{IsUtf8, is_utf8}
-use Rattle.std.proofs.lemmas.Str.{IsUtf8-from_is_utf8, is_utf8-from_IsUtf8}
-use Rattle.std.proofs.lemmas.Bool.{ltb-true, ltb-false, lt-ltb, le-ltb, eqb-true, eqb-false, eq-eqb, ne_eqb, or_parts, or_cases, and_parts, false≢true}
-use Rattle.std.proofs.lemmas.List.{length-append, take-append-drop, length-take, take_at, append-nil}
+use Rattle.std.proofs.lemmas.Str.{is_utf8-from_IsUtf8}
+use Rattle.std.proofs.lemmas.Bool.{ltb-true, ltb-false, lt-ltb, le-ltb, eqb-true, eqb-false, ne_eqb, or_parts, or_cases, cases_Bool, and_parts, false≢true}
+use Rattle.std.proofs.lemmas.List.{length-append}
 use Rattle.cbor_core.specs.declared.fault.CborFault.{CborFault}
 use Rattle.cbor_core.specs.declared.fault.CborFault.TheVariants as f
 use Rattle.cbor_core.specs.declared.item.Item.{Item}
 use Rattle.cbor_core.specs.declared.item.Item.TheVariants as v
-use Rattle.cbor_core.specs.Grammar.{IsBytes, head_of, IsHead, IsString, EncodesEach, Encodes}
-use Rattle.cbor_core.specs.Refusals.{Rest, IsBehind, IsBehindHead, IsTruncated, RefusesWidth, RefusesArgument, RefusesHead, may_begin, is_item, is_key, RefusesString, RefusesText, RefusesFlat, RefusesEach}
-use Rattle.cbor_core.specs.Internal.Results.{◌>>=◌}
+use Rattle.cbor_core.specs.Grammar.{IsBytes, head_of, EncodesEach}
+use Rattle.cbor_core.specs.Refusals.{Rest, IsBehind, IsBehindHead, RefusesWidth, RefusesArgument, RefusesHead, is_item, RefusesString, RefusesText, RefusesEach}
 use Rattle.cbor_core.specs.Internal.Reading.{Reader, start_of, byte_at, wide_at, argument_at, string_at, whole_at, blob_at, text_string_at, flat_at, items_at, list_at, map_at, item_at}
-use Rattle.cbor_core.proofs.Outcomes.{same_err, took, passed, went_on, stopped}
-use Rattle.cbor_core.proofs.Arguments.{IsBytes-drop, Head, argument_takes, argument_again, head_first}
+use Rattle.cbor_core.proofs.Outcomes.{same_err, took, stopped}
+use Rattle.cbor_core.proofs.Arguments.{argument_takes, argument_again}
 use Rattle.cbor_core.proofs.Again.{Again, string_again}
 use Rattle.cbor_core.proofs.Found.{Takes, string_takes}
-use Rattle.cbor_core.proofs.ReadingLoops.{item_as_list, item_as_map, item_as_flat}
+use Rattle.cbor_core.proofs.ReadingLoops.{text_refused, item_as_list, item_as_map, item_as_flat}
 
 -- the rest ends where the input of so many bytes does
 abbrev pub EndsAt : ℕ → Rest → Type 0
 EndsAt total rest = total ≡ rest.at + length rest.bytes
-
--- a truth value is true or false
-pub boolean : (b : Bool) → (b ≡ true) ⊎ (b ≡ false)
-boolean true = inl refl
-boolean false = inr refl
-
-not_utf8 : (content : List ℕ) → (IsUtf8 content → ⊥) → is_utf8 content ≡ false
-not_utf8 content bad = elim (boolean (is_utf8 content)) [
-  | inl t ↦ absurd (bad (IsUtf8-from_is_utf8 content t))
-  | inr t ↦ t
-]
 
 -- ---- an argument
 
@@ -274,7 +262,7 @@ item_head_refused total levels left at [] e is s = item_at_end total levels left
 item_head_refused total levels left at (b ∷ bytes) e is (inl s) = rw (s.0, s.1) (item_at_full total levels b bytes)
 item_head_refused total levels left at (b ∷ bytes) e is (inr (inl s)) =
     let here : total ≡ at + suc (length bytes) = is in
-    elim (boolean (is_item levels (b / 32))) [
+    elim (cases_Bool (is_item levels (b / 32))) [
       | inl yes_kind ↦
           let code : 28 ≤ b % 32 = ltb-false (b % 32) 28 (rw yes_kind at s.1) in
           rw s.2 (at_head total left s.0 b bytes levels (f.Forbidden at) yes_kind (argument_indefinite total at b bytes here code))
@@ -385,7 +373,7 @@ text_refused_whole total left rest e ends s =
     let bytes : rest.bytes ≡ (head_of 3 (length content) ++ content) ++ back.bytes = s.4.bytes ∙ ap (λ (z : List ℕ). z ++ back.bytes) s.3.1 in
     let read : string_at total rest.bytes ≡ Ok (content, back.bytes) = ap (string_at total) bytes ∙ string_again total 3 content back.bytes s.3.0 in
     let start : start_of total rest.bytes ≡ rest.at = omega (arith, ends) in
-    rw (read, not_utf8 content s.5, start, s.6) refl
+    rw (read, text_refused content s.5, start, s.6) refl
 
 -- where a text is refused, its string is refused, or it is all there and not UTF-8
 pub text_stops : (total left at b : ℕ) (bytes : List ℕ) (e : CborFault) → EndsAt total (rest_at left at (b ∷ bytes)) → 0 < left → b / 32 ≡ 3 → IsBytes (b ∷ bytes) → text_string_at total (left - 1) (b ∷ bytes) ≡ Err e

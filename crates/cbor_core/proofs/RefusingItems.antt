@@ -1,22 +1,21 @@
 -- An item, and a whole input, is refused by the relation exactly where reading ends with this fault.
-use Rattle.std.proofs.Common.{◌≡◌, ◌≢◌, ℕ, zero, suc, ◌+◌, ◌-◌, ◌/◌, ◌%◌, ◌≤◌, ◌<◌, Bool, true, false, cond, eqb, ltb, List, [], ◌∷◌, ◌++◌, length, get_or, Result, Ok, Err, refl, sym, ap, subst, ◌∙◌, append_assoc, arith, inl, inr}
+use Rattle.std.proofs.Common.{◌≡◌, ℕ, zero, suc, ◌-◌, ◌/◌, ◌%◌, ◌<◌, true, false, ltb, List, [], ◌∷◌, ◌++◌, length, get_or, Ok, Err, refl, sym, ap, subst, ◌∙◌, append_assoc, arith, inl, inr}
 use Rattle.std.specs.Prelude.{◌⊎◌, ◌&&◌}
-use Rattle.std.proofs.lemmas.Bool.{ltb-false, lt-ltb, le-ltb, eqb-true, eqb-false, ne_eqb, and_parts}
-use Rattle.std.proofs.lemmas.List.{length-append, length-drop}
+use Rattle.std.proofs.lemmas.Bool.{cases_Bool, lt-ltb, le-ltb}
 use Rattle.cbor_core.specs.declared.fault.CborFault.{CborFault}
 use Rattle.cbor_core.specs.declared.fault.CborFault.TheVariants as f
 use Rattle.cbor_core.specs.declared.item.Item.{Item}
 use Rattle.cbor_core.specs.declared.item.Item.TheVariants as v
-use Rattle.cbor_core.specs.Grammar.{IsBytes, head_of, IsString, Encodes, pairs_of}
-use Rattle.cbor_core.specs.Refusals.{Rest, IsBehind, IsBehindHead, RefusesHead, is_item, RefusesString, RefusesText, RefusesFlat, RefusesEach, RefusesEntries, RefusesInside, RefusesItem, IsRefused, IsTrailing, input_of}
+use Rattle.cbor_core.specs.Grammar.{IsBytes, head_of, Encodes, pairs_of}
+use Rattle.cbor_core.specs.Refusals.{Rest, IsBehind, IsBehindHead, RefusesHead, is_item, RefusesString, RefusesFlat, RefusesEach, RefusesEntries, RefusesInside, RefusesItem}
 use Rattle.cbor_core.specs.Internal.Results.{◌>>=◌}
-use Rattle.cbor_core.specs.Internal.Reading.{Reader, start_of, argument_at, string_at, whole_at, blob_at, text_string_at, flat_at, items_at, entries_at, list_at, map_at, item_at, reading}
-use Rattle.cbor_core.proofs.Outcomes.{same_err, took, stopped, passed_true}
+use Rattle.cbor_core.specs.Internal.Reading.{Reader, start_of, argument_at, whole_at, flat_at, items_at, entries_at, list_at, map_at, item_at}
+use Rattle.cbor_core.proofs.Outcomes.{same_err, stopped}
 use Rattle.cbor_core.proofs.Arguments.{head_first}
 use Rattle.cbor_core.proofs.Again.{Again, item_again}
 use Rattle.cbor_core.proofs.Found.{Takes, item_takes}
 use Rattle.cbor_core.proofs.ReadingLoops.{item_as_flat, item_as_list, item_as_map}
-use Rattle.cbor_core.proofs.Refusing.{EndsAt, RefusedSo, StopsSo, boolean, rest_at, start_is, Kinds, kinds, head_read, head_again, argument_stops, item_head_refused, item_at_end, item_at_full, as_whole, as_blob, as_text, as_list, as_map, as_none, flat_is_blob, flat_is_text, string_refused, string_stops, blob_refused, blob_stops, text_refused_cut, text_refused_whole, text_stops, each_refused, each_stops, ends_behind}
+use Rattle.cbor_core.proofs.Refusing.{EndsAt, RefusedSo, StopsSo, rest_at, start_is, Kinds, kinds, head_read, head_again, argument_stops, item_head_refused, item_at_end, item_at_full, as_whole, as_blob, as_text, as_list, as_map, as_none, flat_is_blob, flat_is_text, string_refused, string_stops, blob_refused, blob_stops, text_refused_cut, text_refused_whole, text_stops, each_refused, each_stops, ends_behind}
 use Rattle.cbor_core.proofs.RefusingMaps.{entries_refuse, entries_refusal}
 
 -- ---- what the relation refuses, reading does
@@ -185,7 +184,7 @@ module _ (total levels inside : ℕ) (is : levels - 1 ≡ inside) (so : 0 < leve
   at_stops : (left at : ℕ) (bytes : List ℕ) (e : CborFault) → EndsAt total (rest_at left at bytes) → IsBytes bytes → item_at total levels left bytes ≡ Err e → Stopped levels inside (rest_at left at bytes) e
   at_stops left at [] e ends h stops = inl (sym (same_err (f.Truncated total) e (sym (item_at_end total levels left) ∙ stops)) ∙ ap (λ (n : ℕ). f.Truncated n) (omega (arith, ends)))
   at_stops zero at (b ∷ bytes) e ends h stops = inl (inl (refl, sym (same_err f.TooMany e (sym (item_at_full total levels b bytes) ∙ stops))))
-  at_stops (suc left) at (b ∷ bytes) e ends h stops = elim (boolean (is_item levels (b / 32))) [
+  at_stops (suc left) at (b ∷ bytes) e ends h stops = elim (cases_Bool (is_item levels (b / 32))) [
     | inl kind ↦ kind_stops (suc left) at b bytes e ends (omega arith) h kind (kinds levels (b / 32) kind) stops
     | inr none ↦
         let not_begun : (is_item levels (b / 32) && ltb (b % 32) 28) ≡ false = rw none refl in

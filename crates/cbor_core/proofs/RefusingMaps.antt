@@ -1,22 +1,22 @@
 -- An entry of a map is refused by the relation exactly where reading ends with this fault.
-use Rattle.std.proofs.Common.{◌≡◌, ◌≢◌, ℕ, zero, suc, ◌+◌, ◌-◌, ◌/◌, ◌%◌, ◌≤◌, ◌<◌, Bool, true, false, cond, eqb, ltb, List, [], ◌∷◌, ◌++◌, length, Result, Ok, Err, refl, sym, ap, subst, ◌∙◌, append_assoc, arith, inl, inr}
+use Rattle.std.proofs.Common.{◌≡◌, ℕ, zero, suc, ◌+◌, ◌-◌, ◌/◌, ◌%◌, ◌≤◌, ◌<◌, true, false, cond, eqb, ltb, List, [], ◌∷◌, ◌++◌, length, Result, Ok, Err, refl, sym, ap, ◌∙◌, append_assoc, arith, inl, inr}
 use Rattle.std.specs.Prelude.{◌⊎◌, ◌&&◌}
 use Rattle.std.specs.Ordering.{nat_cmp}
 use Rattle.std.specs.BTreeMap.{insert_entry}
-use Rattle.std.proofs.lemmas.Bool.{ltb-false, lt-ltb, le-ltb, eqb-true, eqb-false, ne_eqb, and_parts, true≢false}
+use Rattle.std.proofs.lemmas.Bool.{cases_Bool, ltb-false, lt-ltb, le-ltb, eqb-true, eqb-false, ne_eqb, and_parts, true≢false}
 use Rattle.std.proofs.lemmas.List.{length-append}
 use Rattle.cbor_core.specs.declared.fault.CborFault.{CborFault}
 use Rattle.cbor_core.specs.declared.fault.CborFault.TheVariants as f
 use Rattle.cbor_core.specs.declared.item.Item.{Item}
-use Rattle.cbor_core.specs.Grammar.{IsBytes, head_of, IsHead, EncodesEntries, KeysDiffer, put_all}
-use Rattle.cbor_core.specs.Refusals.{Rest, IsBehind, IsBehindHead, RefusesHead, is_key, LacksKey, RefusesEntry, RefusesEntries}
+use Rattle.cbor_core.specs.Grammar.{IsBytes, head_of, EncodesEntries, KeysDiffer}
+use Rattle.cbor_core.specs.Refusals.{Rest, IsBehind, IsBehindHead, RefusesHead, is_key, RefusesEntry, RefusesEntries}
 use Rattle.cbor_core.specs.Internal.Results.{◌>>=◌}
 use Rattle.cbor_core.specs.Internal.Reading.{Reader, start_of, argument_at, key_at, entries_at}
 use Rattle.cbor_core.proofs.Outcomes.{same_err, took, stopped}
-use Rattle.cbor_core.proofs.Keys.{has, Fresh, fresh_before, fresh_after, fresh_at_first, lacks_before, lacks_after}
+use Rattle.cbor_core.proofs.Keys.{put_all, has, Fresh, fresh_before, fresh_after, fresh_at_first, lacks_before, lacks_after}
 use Rattle.cbor_core.proofs.Again.{Again, key_again}
 use Rattle.cbor_core.proofs.Found.{Takes, key_takes}
-use Rattle.cbor_core.proofs.Refusing.{EndsAt, RefusedSo, StopsSo, boolean, rest_at, behind_none, behind_then, ends_behind, start_is, argument_refused, argument_indefinite, argument_stops}
+use Rattle.cbor_core.proofs.Refusing.{EndsAt, RefusedSo, StopsSo, rest_at, behind_none, behind_then, ends_behind, start_is, argument_refused, argument_indefinite, argument_stops}
 
 -- ---- a key
 
@@ -26,7 +26,7 @@ key_head_refused total left at [] e is s = rw (s, is) (ap (λ (n : ℕ). Err (f.
 key_head_refused total left at (b ∷ bytes) e is (inl s) = rw (s.0, s.1) refl
 key_head_refused total left at (b ∷ bytes) e is (inr (inl s)) =
     let some : eqb left 0 ≡ false = ne_eqb left 0 (λ z. absurd (omega (arith, s.0))) in
-    elim (boolean (eqb (b / 32) 0)) [
+    elim (cases_Bool (eqb (b / 32) 0)) [
       | inl k ↦
           let code : 28 ≤ b % 32 = ltb-false (b % 32) 28 (rw k at s.1) in
           rw (some, k, s.2) (argument_indefinite total at b bytes is code)
@@ -80,7 +80,7 @@ module _ (total : ℕ) (inner : Reader) (spells : Item → ℕ → List ℕ → 
     s.1,
     s.2,
     elim (s.3) [
-      | inl r ↦ elim (boolean (has s.0 (put_all [] entries))) [
+      | inl r ↦ elim (cases_Bool (has s.0 (put_all [] entries))) [
         | inl t ↦ inl (t, r.1)
         | inr t ↦ absurd (r.0 (lacks_before s.0 entries [] t).1)
       ]

@@ -1,50 +1,22 @@
 -- What is spelled may be written: its maps have rising keys, and it keeps the limits.
-use Rattle.std.proofs.Common.{◌≡◌, ℕ, zero, suc, ◌+◌, ◌≤◌, ◌<◌, Bool, true, false, ltb, List, [], ◌∷◌, map, refl, sym, ap, subst, ◌∙◌, arith, inl, inr}
+use Rattle.std.proofs.Common.{◌≡◌, ℕ, zero, suc, ◌+◌, ◌≤◌, Bool, true, false, List, [], ◌∷◌, refl, sym, ap, subst, ◌∙◌, arith, inl, inr}
 use Rattle.std.specs.List.{list_all, AllByRecursion}
 use Rattle.std.specs.Ordering.{nat_cmp, match_ordering}
 use Rattle.std.specs.declared.cmp.Ordering.{Ordering}
 use Rattle.std.specs.declared.cmp.Ordering.TheVariants.{Less, Equal, Greater}
 use Rattle.std.specs.BTreeMap.{insert_entry}
-use Rattle.std.proofs.lemmas.Bool.{true≢false, lt-ltb}
-use Rattle.std.proofs.lemmas.Cmp.{ranked}
+use Rattle.std.proofs.lemmas.Bool.{true≢false}
 use Rattle.cbor_core.specs.declared.item.Item.{Item, fold-roll-Item}
 use Rattle.cbor_core.specs.declared.item.Item.TheOpen.{Item-F}
 use Rattle.cbor_core.specs.declared.item.Item.TheVariants as v
 use Rattle.cbor_core.specs.declared.item.Pair.{Pair}
-use Rattle.cbor_core.specs.Grammar.{EncodesFlat, EncodesEach, EncodesEntries, EncodesList, EncodesMap, Encodes, KeysDiffer, put_all, pairs_of}
+use Rattle.cbor_core.specs.Grammar.{EncodesFlat, EncodesEach, EncodesEntries, EncodesList, EncodesMap, Encodes, KeysDiffer, pairs_of}
 use Rattle.cbor_core.specs.Writing.{sum_over, largest_over, nesting_step, item_nesting, count_of, keys_rise_step, keys_rise}
-use Rattle.base_types.specs.Order.{rise}
-use Rattle.cbor_core.proofs.Keys.{has, Fresh, fresh_after, fresh_at_first}
-use Rattle.cbor_core.proofs.Lawful.{Above, Rising, nesting-List, nesting-Map, count-Whole, count-Blob, count-Text, count-List, count-Map, rise-List, rise-Map}
+use Rattle.cbor_core.proofs.Keys.{put_all, has, Fresh, fresh_after, fresh_at_first}
+use Rattle.cbor_core.proofs.Maps.{by_put, rising_all, rising_rise}
+use Rattle.cbor_core.proofs.Lawful.{nesting-List, nesting-Map, count-Whole, count-Blob, count-Text, count-List, count-Map, rise-List, rise-Map}
 
 -- ---- an entry at its place by key
-
-above_put_by : (o : Ordering) (low k : ℕ) (value : Item) (e : ℕ × Item) (es more : List (ℕ × Item)) → low < k → Above low (e ∷ es) → Above low more → Above low (match_ordering o ((k, value) ∷ (e ∷ es)) ((e.0, value) ∷ es) (e ∷ more))
-above_put_by Less low k value e es more lt a ih = (lt, a)
-above_put_by Equal low k value e es more lt a ih = (a.0, a.1)
-above_put_by Greater low k value e es more lt a ih = (a.0, ih)
-
-above_put : (low k : ℕ) (value : Item) (es : List (ℕ × Item)) → low < k → Above low es → Above low (insert_entry nat_cmp es k value)
-above_put low k value [] lt a = (lt, tt)
-above_put low k value (e ∷ es) lt a = above_put_by (nat_cmp k e.0) low k value e es (insert_entry nat_cmp es k value) lt a (above_put low k value es lt a.1)
-
-above_lower : (k j : ℕ) (es : List (ℕ × Item)) → k < j → Above j es → Above k es
-above_lower k j [] lt a = tt
-above_lower k j (e ∷ es) lt a = (omega (arith, a.0), above_lower k j es lt a.1)
-
-rising_put_by : (o : Ordering) (k : ℕ) (value : Item) (e : ℕ × Item) (es : List (ℕ × Item)) → o ≡ nat_cmp k e.0 → Rising (e ∷ es) → Rising (insert_entry nat_cmp es k value)
-    → Rising (match_ordering o ((k, value) ∷ (e ∷ es)) ((e.0, value) ∷ es) (e ∷ insert_entry nat_cmp es k value))
-rising_put_by Less k value e es is r ih = let lt = ranked k e.0 Less is in ((lt, above_lower k e.0 es lt r.0), r)
-rising_put_by Equal k value e es is r ih = (r.0, r.1)
-rising_put_by Greater k value e es is r ih = (above_put e.0 k value es (ranked k e.0 Greater is) r.0, ih)
-
-rising_put : (k : ℕ) (value : Item) (es : List (ℕ × Item)) → Rising es → Rising (insert_entry nat_cmp es k value)
-rising_put k value [] r = (tt, tt)
-rising_put k value (e ∷ es) r = rising_put_by (nat_cmp k e.0) k value e es refl r (rising_put k value es r.1)
-
-rising_all : (es done : List (ℕ × Item)) → Rising done → Rising (put_all done es)
-rising_all [] done r = r
-rising_all (e ∷ es) done r = rising_all es (insert_entry nat_cmp done e.0 e.1) (rising_put e.0 e.1 done r)
 
 sum_put_by : (f : ℕ × Item → ℕ) (o : Ordering) (k : ℕ) (value : Item) (e : ℕ × Item) (es more : List (ℕ × Item)) → nat_cmp k e.0 ≡ o → has k (e ∷ es) ≡ false → (has k es ≡ false → sum_over f more ≡ f (k, value) + sum_over f es)
     → sum_over f (match_ordering o ((k, value) ∷ (e ∷ es)) ((e.0, value) ∷ es) (e ∷ more)) ≡ f (k, value) + (f e + sum_over f es)
@@ -82,17 +54,6 @@ module _ (P : Item → Type 0) where
   values_all (e ∷ es) done d a = values_all es (insert_entry nat_cmp done e.0 e.1) (values_put e.0 e.1 done a.0 d) a.1
 
 -- ---- the pairs of entries
-
-abbrev key_of : Pair Item → ℕ
-key_of p = p.key
-
-above_rise : (k : ℕ) (es : List (ℕ × Item)) → Above k es → list_all (ltb k) (map key_of (pairs_of es)) ≡ true
-above_rise k [] a = refl
-above_rise k (e ∷ es) a = rw (lt-ltb k e.0 a.0) (above_rise k es a.1)
-
-rising_rise : (es : List (ℕ × Item)) → Rising es → rise (map key_of (pairs_of es)) ≡ true
-rising_rise [] r = refl
-rising_rise (e ∷ es) r = rw (above_rise e.0 es r.0) (rising_rise es r.1)
 
 -- what is kept of an item that is spelled
 pub record Kept (levels : ℕ) (item : Item) (count : ℕ) : Type 0 where
@@ -171,7 +132,8 @@ module _ (levels : ℕ) (keeps : Keeps levels) where
       subst (λ (i : Item). Kept (suc levels) i count) (sym s.3) (record { nesting = omega (arith, nesting-List is, each.0); counted = count-List is ∙ ap suc each.1 ∙ sym s.6; keys = rise-List is ∙ each.2 })
 
   map_kept : (item : Item) (count : ℕ) (bytes : List ℕ) → EncodesMap (Encodes levels) item count bytes → Kept (suc levels) item count
-  map_kept item count bytes s =
+  map_kept item count bytes t =
+      let s = by_put (Encodes levels) item count bytes t in
       let es = put_all [] s.0 in
       let each = entries_kept s.0 s.1 s.2 s.6 in
       let values : Values (Inner levels) es = values_all (Inner levels) s.0 [] tt each.0 in

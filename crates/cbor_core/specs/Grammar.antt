@@ -1,11 +1,11 @@
 -- The items of CBOR (RFC 8949) that are read and written here, and the bytes that spell each: whole
 -- numbers, byte strings, texts, lists, and maps from whole numbers, all of definite length.
-use Rattle.std.specs.Prelude.{◌≡◌, ◌≢◌, ℕ, zero, suc, ◌+◌, ◌*◌, ◌^◌, ◌<◌, List, [], ◌∷◌, ◌++◌, length, map, nat_lt, slice_index, if◌then◌else◌, ◌⊎◌}
+use Rattle.std.specs.Prelude.{◌≡◌, ◌≢◌, ℕ, zero, suc, ◌+◌, ◌*◌, ◌^◌, ◌<◌, List, [], ◌∷◌, ◌++◌, length, map, true, nat_lt, slice_index, if◌then◌else◌, ◌⊎◌}
 use Rattle.std.specs.Int.{w16, w32, w64, to_be_bytes}
-use Rattle.std.specs.Ordering.{nat_cmp}
 use Rattle.std.specs.List.{AllByRecursion}
 use Rattle.std.specs.Str.{IsUtf8}
-use Rattle.std.specs.BTreeMap.{insert_entry}
+use Rattle.base_types.specs.Order.{rise}
+use Rattle.base_types.specs.Sets.{SameElements}
 use Rattle.cbor_core.specs.declared.item.Item.{Item}
 use Rattle.cbor_core.specs.declared.item.Item.TheVariants as v
 use Rattle.cbor_core.specs.declared.item.Pair.{Pair}
@@ -56,14 +56,16 @@ KeysDiffer [] = Unit {0}
 KeysDiffer (entry ∷ entries) =
     AllByRecursion (λ (other : ℕ × Item). other.0 ≢ entry.0) entries × KeysDiffer entries
 
--- the entries, put one after another each at its place by key among those before
-abbrev pub put_all : List (ℕ × Item) → List (ℕ × Item) → List (ℕ × Item)
-put_all done [] = done
-put_all done (entry ∷ entries) = put_all (insert_entry nat_cmp done entry.0 entry.1) entries
-
 -- entries as the pairs of a map
 abbrev pub pairs_of : List (ℕ × Item) → List (Pair Item)
 pairs_of entries = map (λ e. record { key = e.0; value = e.1 }) entries
+
+-- The pairs are those of a map with these entries: the same, by rising key, which for whole numbers
+-- is the order of their encodings (RFC 8949, 4.2.1). No key stands twice.
+abbrev pub IsMapOf : List (ℕ × Item) → List (Pair Item) → Type 0
+IsMapOf entries pairs =
+    KeysDiffer entries × SameElements (pairs_of entries) pairs
+    × (rise (map (λ (p : Pair Item). p.key) pairs) ≡ true)
 
 -- an item that holds no others: major types 0, 2 and 3 (RFC 8949, 3.1)
 abbrev pub EncodesFlat : Item → List ℕ → Type 0
@@ -83,9 +85,9 @@ EncodesList spells item count bytes =
 -- item has its pairs by rising key
 abbrev pub EncodesMap : (Item → ℕ → List ℕ → Type 0) → Item → ℕ → List ℕ → Type 0
 EncodesMap spells item count bytes =
-    (entries : List (ℕ × Item)) × (n : ℕ) × (rest : List ℕ)
-    × (item ≡ v.Map (pairs_of (put_all [] entries))) × KeysDiffer entries
-    × (length entries < 2 ^ 64) × EncodesEntries spells entries n rest × (count ≡ suc n)
+    (entries : List (ℕ × Item)) × (pairs : List (Pair Item)) × (n : ℕ) × (rest : List ℕ)
+    × (item ≡ v.Map pairs) × IsMapOf entries pairs × (length entries < 2 ^ 64)
+    × EncodesEntries spells entries n rest × (count ≡ suc n)
     × (bytes ≡ head_of 5 (length entries) ++ rest)
 
 -- The bytes spell the item, in which lists and maps nest at most `levels` deep, and with which

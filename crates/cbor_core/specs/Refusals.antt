@@ -9,7 +9,7 @@ use Rattle.std.specs.Str.{IsUtf8}
 use Rattle.cbor_core.specs.declared.fault.CborFault.{CborFault}
 use Rattle.cbor_core.specs.declared.fault.CborFault.TheVariants.{Truncated, NotShortest, Forbidden, RepeatedKey, Trailing, TooMany, Memory}
 use Rattle.cbor_core.specs.declared.item.Item.{Item}
-use Rattle.cbor_core.specs.Grammar.{head_of, IsHead, IsString, EncodesEach, EncodesEntries, KeysDiffer, Encodes}
+use Rattle.cbor_core.specs.Grammar.{head_of, IsString, EncodesEach, EncodesEntries, KeysDiffer, Encodes}
 
 -- the call answered so, or memory ran out
 abbrev pub UnlessMemory : {A E : Type 0} → E → Result A E → Result A E → Type 0

@@ -1,6 +1,8 @@
 //! Reading one item (RFC 8949, 3).
 
-ghost use Rattle.std.specs.Prelude.{◌≡◌, ◌≢◌, ◌≤◌, ◌<◌, ℕ, [], true, length, take, IfOk, Result, Ok, Err};
+ghost use Rattle.std.specs.Prelude.{◌≡◌, ◌≢◌, ◌≤◌, ◌<◌, ℕ, [], ◌∷◌, ◌++◌, true, length, take, IfOk, OnOk, Result, Ok, Err};
+ghost use Rattle.std.specs.Ordering.{nat_cmp};
+ghost use Rattle.std.specs.BTreeMap.{insert_entry};
 ghost use Rattle.cbor_core.specs.declared.item.Item.{Item};
 ghost use Rattle.cbor_core.specs.declared.fault.CborFault.{CborFault};
 ghost use Rattle.cbor_core.specs.declared.fault.CborFault.TheVariants.{Trailing, Memory};
@@ -71,6 +73,13 @@ fn read_list(
     Ok((Item::List(items), left, rest))
 }
 
+fn push_item(items: &mut Items<Item>, item: Item) -> Result<(), base_types::Memory>
+    ensures { OnOk result (items.new ≡ items.old ++ item ∷ []) }
+{
+    items.push(item)?;
+    Ok(())
+}
+
 #[cycle(item)]
 #[tactic(auto, using(crate::proofs::ReadingLoops::items_steps))]
 fn read_items(
@@ -89,7 +98,7 @@ fn read_items(
     let mut rest = bytes;
     for _ in 0..count {
         let (item, left_after, after) = read_item(alloc, total, levels, remaining, rest)?;
-        items.push(item)?;
+        push_item(&mut items, item)?;
         remaining = left_after;
         rest = after;
     }
@@ -111,6 +120,18 @@ fn read_map(
     let (count, rest) = read_argument(total, bytes)?;
     let (entries, left, rest) = read_entries(alloc, total, levels, count, left, rest)?;
     Ok((Item::Map(pairs(alloc, entries)?), left, rest))
+}
+
+fn put_entry(
+    entries: &mut BTreeMap<u64, Item>,
+    key: u64,
+    value: Item,
+) -> Result<(), base_types::Memory>
+    ensures { OnOk result
+        (entries.new.entries ≡ insert_entry nat_cmp entries.old.entries key value) }
+{
+    drop(entries.insert(key, value)?);
+    Ok(())
 }
 
 #[cycle(item)]
@@ -141,7 +162,7 @@ fn read_entries(
             remaining.saturating_sub(1),
             behind,
         )?;
-        drop(entries.insert(key, value)?);
+        put_entry(&mut entries, key, value)?;
         remaining = left_after;
         rest = after;
     }
@@ -150,8 +171,8 @@ fn read_entries(
 
 /// The entries of a map as its pairs.
 #[tactic(auto, using(crate::proofs::ReadingLoops::pairs_steps))]
-fn pairs(alloc: Global, entries: BTreeMap<u64, Item>) -> Result<Items<Pair>, CborFault>
-    ensures { Gives is_memory (λ x. x) result (Ok (pairs_of entries.entries)) }
+fn pairs(alloc: Global, entries: BTreeMap<u64, Item>) -> Result<Items<Pair>, base_types::Memory>
+    ensures { IfOk result (λ pairs. pairs ≡ pairs_of entries.entries) }
 {
     let mut pairs = Items::new(alloc);
     for (key, value) in entries {

@@ -3,7 +3,7 @@
 ghost use Rattle.std.specs.Prelude.{◌≡◌};
 
 use base_types::Memory;
-use std::alloc::{AllocError, AllocFailed};
+use std::fmt;
 
 /// Why bytes are not one item: the first refusal from left to right. A number is a place in the
 /// input, counted in bytes from 0.
@@ -37,22 +37,24 @@ impl From<Memory> for CborFault {
     }
 }
 
-impl From<AllocError> for CborFault {
-    ghost use Rattle.cbor_core.specs.declared.fault.CborFault.TheVariants as fault;
+impl fmt::Display for CborFault {
+    ghost use Rattle.std.specs.Prelude.{Some};
+    ghost use Rattle.cbor_core.specs.Lines.{fault_line};
 
-    ghost from_gives = { λ _ e. e ≡ fault.Memory };
+    ghost output = { λ fault. Some (fault_line fault) };
 
-    fn from(_error: AllocError) -> CborFault {
-        CborFault::Memory
-    }
-}
-
-impl<T: Drop> From<AllocFailed<T>> for CborFault {
-    ghost use Rattle.cbor_core.specs.declared.fault.CborFault.TheVariants as fault;
-
-    ghost from_gives = { λ _ e. e ≡ fault.Memory };
-
-    fn from(_error: AllocFailed<T>) -> CborFault {
-        CborFault::Memory
+    fn fmt<W: fmt::Write>(&self, f: &mut fmt::Formatter<W>) -> fmt::Result {
+        match self {
+            CborFault::Truncated(at) => write!(f, "the input ends at byte {at}, inside an item"),
+            CborFault::NotShortest(at) => write!(f, "the head at byte {at} has a shorter spelling"),
+            CborFault::Forbidden(at) => write!(f, "what begins at byte {at} may not stand there"),
+            CborFault::RepeatedKey(at) => write!(
+                f,
+                "the key at byte {at} stands in its map before"
+            ),
+            CborFault::Trailing(at) => write!(f, "bytes follow the item, from byte {at} on"),
+            CborFault::TooMany => write!(f, "more than 100,000 items begin"),
+            CborFault::Memory => write!(f, "out of memory"),
+        }
     }
 }

@@ -6,7 +6,7 @@ use base_types::{Items, Sequence, Text};
 pub type Bytes = Sequence<u8>;
 
 /// An item of CBOR (RFC 8949, 3.1): major types 0, 2, 3, 4 and 5.
-#[derive(Drop)]
+#[derive(Debug, Drop)]
 pub enum Item {
     Whole(u64),
     Blob(Bytes),
@@ -17,7 +17,7 @@ pub enum Item {
 }
 
 /// One key of a map and its value.
-#[derive(Drop)]
+#[derive(Debug, Drop, PartialEq, Eq)]
 pub struct Pair<V = Item> {
     pub key: u64,
     pub value: V,

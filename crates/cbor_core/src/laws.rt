@@ -1,10 +1,11 @@
 //! Laws of the definitions, each proved of a function that does nothing.
 
-ghost use Rattle.std.specs.Prelude.{◌≡◌, ◌≤◌, ◌<◌, ◌++◌, ℕ, List, length, Result};
+ghost use Rattle.std.specs.Prelude.{◌≡◌, ◌≤◌, ◌<◌, ◌++◌, ◌↔◌, IsTrue, ℕ, List, length, Result};
 ghost use Rattle.cbor_core.specs.declared.fault.CborFault.{CborFault};
 ghost use Rattle.cbor_core.specs.declared.fault.CborFault.TheVariants.{Truncated};
 ghost use Rattle.cbor_core.specs.declared.item.Item.{Item};
 ghost use Rattle.cbor_core.specs.Grammar.{IsBytes, Encodes};
+ghost use Rattle.cbor_core.specs.Equality.{equal_items};
 ghost use Rattle.cbor_core.specs.Refusals.{IsRefused, IsFinal, ReadsAs};
 
 /// No item's bytes begin another's: where bytes begin with the spellings of two items, they are one
@@ -33,4 +34,9 @@ pub fn a_front_is_truncated()
 pub fn a_final_fault_stays()
     ensures { (bytes more : List ℕ) (fault : CborFault) → IsFinal fault → IsRefused bytes fault
         → IsRefused (bytes ++ more) fault }
+{}
+
+/// Two items are equal exactly where they are the same.
+pub fn equal_items_are_the_same()
+    ensures { (i j : Item) → IsTrue (equal_items i j) ↔ (i ≡ j) }
 {}

@@ -8,6 +8,7 @@
 
 mod decoding;
 mod encoding;
+mod equality;
 mod fault;
 mod heads;
 mod item;
@@ -21,7 +22,8 @@ pub use fault::CborFault;
 pub use heads::{HeadBytes, head};
 pub use item::{Bytes, Item, Pair};
 pub use laws::{
-    a_final_fault_stays, a_front_is_truncated, an_input_has_one_outcome, no_item_begins_another,
+    a_final_fault_stays, a_front_is_truncated, an_input_has_one_outcome, equal_items_are_the_same,
+    no_item_begins_another,
 };
 
 #[cfg(test)]

@@ -1,13 +1,13 @@
 //! The heads, strings and keys that bytes begin with.
 
-ghost use Rattle.std.specs.Prelude.{◌≡◌, ◌^◌};
+ghost use Rattle.std.specs.Prelude.{◌≡◌, ◌^◌, IfOk};
 ghost use Rattle.std.specs.Int.{w16, w32, w64};
 ghost use Rattle.cbor_core.specs.Internal.Results.{Gives};
 ghost use Rattle.cbor_core.specs.Internal.Reading.{is_memory, start_of, byte_at, wide_at, argument_at, string_at, whole_at, blob_at, text_string_at, key_at};
 
 use crate::fault::CborFault;
 use crate::item::{Bytes, Item};
-use base_types::Text;
+use base_types::{Memory, Text};
 use std::alloc::Global;
 
 /// Where the last bytes of an input of `total` bytes begin.
@@ -117,6 +117,12 @@ pub fn read_whole(total: usize, left: u32, bytes: &[u8]) -> Result<(Item, u32, &
     Ok((Item::Whole(value), left, rest))
 }
 
+fn copy_of(alloc: Global, content: &[u8]) -> Result<Bytes, Memory>
+    ensures { IfOk result (λ bytes. bytes ≡ content.now) }
+{
+    Ok(Bytes::from_vec(Vec::from_slice(alloc, content)?))
+}
+
 #[tactic(auto, unfolding(crate::specs::Internal::Reading::blob_at))]
 pub fn read_blob(
     alloc: Global,
@@ -127,8 +133,7 @@ pub fn read_blob(
     ensures { Gives is_memory (λ x. (x.0, x.1, x.2.now)) result (blob_at total left bytes.now) }
 {
     let (content, rest) = read_string(total, bytes)?;
-    let content = Bytes::from_vec(Vec::from_slice(alloc, content)?);
-    Ok((Item::Blob(content), left, rest))
+    Ok((Item::Blob(copy_of(alloc, content)?), left, rest))
 }
 
 #[tactic(auto, using(crate::proofs::ReadingLoops::text_steps), unfolding(crate::specs::Internal::Reading::text_string_at))]

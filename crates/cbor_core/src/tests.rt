@@ -1,4 +1,4 @@
-//! Refusals, limits, and the examples of RFC 8949, appendix A.
+//! Refusals and their texts, limits, and the examples of RFC 8949, appendix A.
 
 use super::*;
 use std::test::*;
@@ -155,10 +155,11 @@ fn appendix_a_outside(rt: HostRuntime) {
     }
 }
 
-/// The rows that lie in the grammar: each is read, and written as it stands.
+/// The rows that lie in the grammar, and lists as deep as they may nest: each is read, and written as
+/// it stands.
 #[test]
 fn appendix_a_inside(rt: HostRuntime) -> Result<(), Fail> {
-    let cases: [(&str, &[u8]); 26] = [
+    let cases: [(&str, &[u8]); 27] = [
         ("0", b"\x00"),
         ("1", b"\x01"),
         ("10", b"\x0a"),
@@ -191,6 +192,7 @@ fn appendix_a_inside(rt: HostRuntime) -> Result<(), Fail> {
         ),
         ("{}", b"\xa0"),
         ("{1: 2, 3: 4}", b"\xa2\x01\x02\x03\x04"),
+        ("four deep", b"\x81\x81\x81\x80"),
     ];
     for (name, bytes) in cases {
         let item = decode(rt.alloc(), bytes)
@@ -407,6 +409,30 @@ fn heads(rt: HostRuntime) {
     }
 }
 
+/// The heads of whole numbers rise by their bytes as the numbers do, so that keys sorted by number are
+/// sorted as RFC 8949, 4.2.1 has it.
+#[test]
+fn heads_rise(rt: HostRuntime) {
+    let numbers: [u64; 11] = [
+        0,
+        1,
+        23,
+        24,
+        255,
+        256,
+        65_535,
+        65_536,
+        4_294_967_295,
+        4_294_967_296,
+        u64::MAX,
+    ];
+    for (low, high) in numbers.iter().zip(numbers.iter().skip(1)) {
+        let below = heads::head(0, *low);
+        let above = heads::head(0, *high);
+        assert!(rt; below.bytes.as_slice() < above.bytes.as_slice(), "at {low}");
+    }
+}
+
 /// What a map holds, by rising keys, in whatever order it was spelled.
 #[test]
 fn values_of_a_map(rt: HostRuntime) -> Result<(), Fail> {
@@ -432,5 +458,96 @@ fn values_of_a_map(rt: HostRuntime) -> Result<(), Fail> {
     let written = encode(rt.alloc(), &item).ok().ok_or("memory")?;
     let by_keys: &[u8] = b"\xa3\x00\x61\x6e\x01\x82\x07\x40\x18\x19\x41\x0b";
     assert!(rt; written.as_slice() == by_keys);
+    Ok(())
+}
+
+/// The line of each fault.
+#[test]
+fn lines_of_faults(rt: HostRuntime) -> Result<(), Fail> {
+    let cases: [(CborFault, &str); 7] = [
+        (
+            CborFault::Truncated(7),
+            "the input ends at byte 7, inside an item",
+        ),
+        (
+            CborFault::NotShortest(0),
+            "the head at byte 0 has a shorter spelling",
+        ),
+        (
+            CborFault::Forbidden(12),
+            "what begins at byte 12 may not stand there",
+        ),
+        (
+            CborFault::RepeatedKey(3),
+            "the key at byte 3 stands in its map before",
+        ),
+        (
+            CborFault::Trailing(u64::MAX),
+            "bytes follow the item, from byte 18446744073709551615 on",
+        ),
+        (CborFault::TooMany, "more than 100,000 items begin"),
+        (CborFault::Memory, "out of memory"),
+    ];
+    for (fault, want) in cases {
+        let line = fault.to_string(rt.alloc())?;
+        assert!(rt; line.as_str() == want);
+    }
+    Ok(())
+}
+
+/// Keys are sorted as numbers and not as texts: 2 comes before 10.
+#[test]
+fn keys_are_sorted_as_numbers(rt: HostRuntime) -> Result<(), Fail> {
+    let spelled: &[u8] = b"\xa2\x0a\x40\x02\x80";
+    let item = decode(rt.alloc(), spelled).ok().ok_or("a map")?;
+    let Item::Map(pairs) = &item else {
+        return Err("no map".into());
+    };
+    let [first, second] = pairs.as_slice() else {
+        return Err("not two pairs".into());
+    };
+    assert!(rt; (first.key, second.key) == (2, 10));
+    let written = encode(rt.alloc(), &item).ok().ok_or("memory")?;
+    let by_keys: &[u8] = b"\xa2\x02\x80\x0a\x40";
+    assert!(rt; written.as_slice() == by_keys);
+    Ok(())
+}
+
+/// Of these items no two are equal, and each is equal to itself.
+#[test]
+fn items_are_compared(rt: HostRuntime) -> Result<(), Fail> {
+    let spellings: [&[u8]; 13] = [
+        b"\x00",
+        b"\x01",
+        b"\x40",
+        b"\x60",
+        b"\x41\x61",
+        b"\x61\x61",
+        b"\x80",
+        b"\xa0",
+        b"\x81\x00",
+        b"\x82\x00\x00",
+        b"\xa1\x00\x00",
+        b"\xa1\x00\x01",
+        b"\xa1\x01\x00",
+    ];
+    for (i, first) in spellings.iter().enumerate() {
+        let item = decode(rt.alloc(), first).ok().ok_or("an item")?;
+        for (j, second) in spellings.iter().enumerate() {
+            let other = decode(rt.alloc(), second).ok().ok_or("an item")?;
+            assert!(rt; (item == other) == (i == j), "at {i} and {j}");
+        }
+    }
+    Ok(())
+}
+
+/// A map is equal to the same entries in another order.
+#[test]
+fn maps_are_compared(rt: HostRuntime) -> Result<(), Fail> {
+    let falling: &[u8] = b"\xa3\x18\x19\x41\x0b\x00\x61\x6e\x01\x82\x07\x40";
+    let rising: &[u8] = b"\xa3\x00\x61\x6e\x01\x82\x07\x40\x18\x19\x41\x0b";
+    let item = decode(rt.alloc(), falling).ok().ok_or("a map")?;
+    let other = decode(rt.alloc(), rising).ok().ok_or("a map")?;
+    assert!(rt; item == other);
     Ok(())
 }

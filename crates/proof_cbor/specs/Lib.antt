@@ -1,3 +1,4 @@
 pub mod Values
 pub mod Refusals
 pub mod Internal
+pub mod Lines

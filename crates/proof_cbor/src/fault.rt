@@ -4,7 +4,7 @@ ghost use Rattle.std.specs.Prelude.{◌≡◌};
 
 use base_types::Memory;
 use cbor_core::CborFault;
-use std::alloc::{AllocError, AllocFailed};
+use std::fmt;
 
 /// A part of a proof value, in the order of its list.
 #[derive(Clone, Copy, Debug, PartialEq, Eq)]
@@ -49,22 +49,46 @@ impl From<Memory> for ValueFault {
     }
 }
 
-impl From<AllocError> for ValueFault {
-    ghost use Rattle.proof_cbor.specs.declared.fault.ValueFault.TheVariants as fault;
+impl fmt::Display for Part {
+    ghost use Rattle.std.specs.Prelude.{Some};
+    ghost use Rattle.proof_cbor.specs.Lines.{part_name};
 
-    ghost from_gives = { λ _ e. e ≡ fault.Memory };
+    ghost output = { λ part. Some (part_name part) };
 
-    fn from(_error: AllocError) -> ValueFault {
-        ValueFault::Memory
+    fn fmt<W: fmt::Write>(&self, f: &mut fmt::Formatter<W>) -> fmt::Result {
+        match self {
+            Part::Array => write!(f, "list of five parts"),
+            Part::BaseSignature => write!(f, "base signature"),
+            Part::PublicKey => write!(f, "public key"),
+            Part::HmacKey => write!(f, "HMAC key"),
+            Part::Signatures => write!(f, "list of signatures"),
+            Part::Pointers => write!(f, "list of mandatory pointers"),
+            Part::LabelMap => write!(f, "label map"),
+            Part::Indexes => write!(f, "list of mandatory indexes"),
+        }
     }
 }
 
-impl<T: Drop> From<AllocFailed<T>> for ValueFault {
-    ghost use Rattle.proof_cbor.specs.declared.fault.ValueFault.TheVariants as fault;
+impl fmt::Display for ValueFault {
+    ghost use Rattle.std.specs.Prelude.{Some};
+    ghost use Rattle.proof_cbor.specs.Lines.{value_line};
 
-    ghost from_gives = { λ _ e. e ≡ fault.Memory };
+    ghost output = { λ fault. Some (value_line fault) };
 
-    fn from(_error: AllocFailed<T>) -> ValueFault {
-        ValueFault::Memory
+    fn fmt<W: fmt::Write>(&self, f: &mut fmt::Formatter<W>) -> fmt::Result {
+        match self {
+            ValueFault::NotMultibase => write!(f, "the text is not `u` and unpadded base64url"),
+            ValueFault::Header => write!(f, "the three bytes of the kind do not come first"),
+            ValueFault::Cbor(fault) => write!(f, "behind the header, {fault}"),
+            ValueFault::Shape(part) => write!(
+                f,
+                "the {part}, or an item in it, has the wrong kind"
+            ),
+            ValueFault::Length(part) => {
+                write!(f, "the {part}, or an item in it, has the wrong length")
+            }
+            ValueFault::Indexes => write!(f, "the mandatory indexes do not rise"),
+            ValueFault::Memory => write!(f, "out of memory"),
+        }
     }
 }

@@ -1,4 +1,4 @@
-//! Texts that are refused, and values that are written back.
+//! Texts that are refused, the lines of faults, and values that are written back.
 
 use super::*;
 use base64::engine::general_purpose::URL_SAFE_NO_PAD;
@@ -20,6 +20,8 @@ enum Spelled {
     Zeros(u8),
     /// These bytes.
     Raw(&'static [u8]),
+    /// A map from 0 to a byte string of so many zeros.
+    Digest(u8),
 }
 
 /// The text of a value with these parts.
@@ -35,6 +37,12 @@ fn text_of(alloc: Global, head: [u8; 4], parts: &[Spelled]) -> Result<String, Me
                 }
             }
             Spelled::Raw(raw) => bytes.extend_from_slice(raw)?,
+            Spelled::Digest(count) => {
+                bytes.extend_from_slice([0xa1, 0x00, 0x58, *count].as_slice())?;
+                for _ in 0..*count {
+                    bytes.push(0)?;
+                }
+            }
         }
     }
     let mut text = String::from_str(alloc, "u")?;
@@ -324,6 +332,28 @@ fn parts_of_another_kind_or_length(rt: HostRuntime) {
     assert!(rt; decode_base(rt.alloc(), &text).err() == Some(ValueFault::Shape(Part::Array)));
 }
 
+/// A digest has 32 bytes, no fewer and no more.
+#[test]
+fn digests_of_another_length(rt: HostRuntime) -> Result<(), Fail> {
+    use Spelled::{Digest, Raw, Zeros};
+    let wrong = Some(ValueFault::Length(Part::LabelMap));
+    for (count, want) in [(31, wrong), (32, None), (33, wrong)] {
+        let parts = [
+            Zeros(64),
+            Zeros(35),
+            Raw(&[0x80]),
+            Digest(count),
+            Raw(&[0x80]),
+        ];
+        let text = text_of(rt.alloc(), [0xd9, 0x5d, 0x01, 0x85], parts.as_slice())?;
+        assert!(rt;
+            decode_derived(rt.alloc(), &text).err() == want,
+            "at {count}"
+        );
+    }
+    Ok(())
+}
+
 /// A base value with two signatures and two pointers, as Python's `base64` and `struct` write it.
 const BASE_FULL: &str =
     "u2V0AhVhAAAECAwQFBgcICQoLDA0ODxAREhMUFRYXGBkaGxwdHh8gISIjJCUmJygpKissLS4vMDEyMzQ1Njc4OTo7PD0-P1gjZGVmZ2hpamtsbW5vcHFyc3R1dnd4eXp7fH1-f4CBgoOEhYZYIMjJysvMzc7P0NHS09TV1tfY2drb3N3e3-Dh4uPk5ebnglhAIiIiIiIiIiIiIiIiIiIiIiIiIiIiIiIiIiIiIiIiIiIiIiIiIiIiIiIiIiIiIiIiIiIiIiIiIiIiIiIiIiIiI1hARERERERERERERERERERERERERERERERERERERERERERERERERERERERERERERERERERERERERERERERERERERYJgZy9hfjFiLzA";
@@ -411,4 +441,97 @@ fn parts_of_a_derived_value(rt: HostRuntime) {
     let derived = decode_derived(rt.alloc(), DERIVED).expect(&rt, "a value");
     let text = encode_derived(rt.alloc(), &derived).expect(&rt, "a value");
     assert!(rt; text.as_str() == DERIVED);
+}
+
+/// Values are equal where all of their parts are, however their texts spell them.
+#[test]
+fn values_are_compared(rt: HostRuntime) {
+    let base = decode_base(rt.alloc(), BASE_FULL).expect(&rt, "a value");
+    let again = decode_base(rt.alloc(), BASE_FULL).expect(&rt, "a value");
+    let signed = decode_base(rt.alloc(), BASE_SIGNED).expect(&rt, "a value");
+    assert!(rt; base == again && base != signed);
+    let falling = decode_derived(rt.alloc(), FALLING).expect(&rt, "a value");
+    let rising = decode_derived(rt.alloc(), RISING).expect(&rt, "a value");
+    let other = decode_derived(rt.alloc(), DERIVED).expect(&rt, "a value");
+    assert!(rt; falling == rising && falling != other);
+}
+
+/// The line of each fault.
+#[test]
+fn lines_of_faults(rt: HostRuntime) -> Result<(), Fail> {
+    let cases: [(ValueFault, &str); 8] = [
+        (
+            ValueFault::NotMultibase,
+            "the text is not `u` and unpadded base64url",
+        ),
+        (
+            ValueFault::Header,
+            "the three bytes of the kind do not come first",
+        ),
+        (
+            ValueFault::Cbor(CborFault::Truncated(3)),
+            "behind the header, the input ends at byte 3, inside an item",
+        ),
+        (
+            ValueFault::Cbor(CborFault::TooMany),
+            "behind the header, more than 100,000 items begin",
+        ),
+        (
+            ValueFault::Shape(Part::Array),
+            "the list of five parts, or an item in it, has the wrong kind",
+        ),
+        (
+            ValueFault::Length(Part::HmacKey),
+            "the HMAC key, or an item in it, has the wrong length",
+        ),
+        (ValueFault::Indexes, "the mandatory indexes do not rise"),
+        (ValueFault::Memory, "out of memory"),
+    ];
+    for (fault, want) in cases {
+        let line = fault.to_string(rt.alloc())?;
+        assert!(rt; line.as_str() == want);
+    }
+    Ok(())
+}
+
+/// The line of a fault in each part.
+#[test]
+fn lines_of_parts(rt: HostRuntime) -> Result<(), Fail> {
+    let cases: [(Part, &str); 7] = [
+        (
+            Part::BaseSignature,
+            "the base signature, or an item in it, has the wrong kind",
+        ),
+        (
+            Part::PublicKey,
+            "the public key, or an item in it, has the wrong kind",
+        ),
+        (
+            Part::HmacKey,
+            "the HMAC key, or an item in it, has the wrong kind",
+        ),
+        (
+            Part::Signatures,
+            "the list of signatures, or an item in it, has the wrong kind",
+        ),
+        (
+            Part::Pointers,
+            "the list of mandatory pointers, or an item in it, has the wrong kind",
+        ),
+        (
+            Part::LabelMap,
+            "the label map, or an item in it, has the wrong kind",
+        ),
+        (
+            Part::Indexes,
+            "the list of mandatory indexes, or an item in it, has the wrong kind",
+        ),
+    ];
+    for (part, want) in cases {
+        let line = ValueFault::Shape(part).to_string(rt.alloc())?;
+        assert!(rt; line.as_str() == want);
+    }
+    let list = Part::Array.to_string(rt.alloc())?;
+    assert!(rt; list.as_str() == "list of five parts");
+    Ok(())
 }

@@ -1,5 +1,4 @@
-use Rattle.std.proofs.Common.{Err, arith}
-use Rattle.cbor_core.specs.declared.fault.CborFault.TheVariants.{Trailing}
+use Rattle.std.proofs.Common.{arith}
 use Rattle.cbor_core.proofs.Whole.{found_by, keys_by, nesting_by, count_by, reads_by, exact_by, gives_reading, read_again, read_trailing}
 use Rattle.std.proofs.Common.{sym, ◌∙◌}
 use Rattle.cbor_core.specs.Internal.Reading.{reading}
