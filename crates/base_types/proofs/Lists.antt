@@ -1,5 +1,5 @@
 -- Membership of a list by its head and its tail, and lists in strict order.
-use Rattle.std.proofs.Common.{◌≡◌, ℕ, zero, suc, ◌+◌, ◌<◌, List, [], ◌∷◌, length, drop, get_or, Option, Some, refl, sym, ap, ◌∙◌, subst, inl, inr, ⊎_elim, arith, Ordering}
+use Rattle.std.proofs.Common.{◌≡◌, ℕ, zero, suc, ◌+◌, ◌<◌, List, [], ◌∷◌, ◌++◌, length, drop, get_or, Option, Some, refl, sym, ap, ◌∙◌, subst, inl, inr, ⊎_elim, arith, Ordering}
 use Rattle.std.specs.Prelude.{◌⊎◌, ◌≢◌, Contains, map}
 use Rattle.std.specs.List.{AllByRecursion}
 use Rattle.std.specs.List.Sorted.{IsStrictlySortedBy}
@@ -154,3 +154,15 @@ module _ {X : Type 0} {R : X → X → Ordering} (o : IsTotalOrder R) where
   AllDiffer-strictly_sorted [] s = λ i j d below in'. omega arith
   AllDiffer-strictly_sorted (x ∷ xs) s =
       AllPairs-cons (λ y z. y ≢ z) x xs (All-from_recursion (λ y. x ≢ y) xs (all_differ x xs s.0)) (AllDiffer-strictly_sorted xs s.1)
+
+-- of two joined lists whose fronts have one length, the fronts are the same and so is what follows
+pub same_fronts : {X : Type 0} (a b r u : List X) → length a ≡ length b → a ++ r ≡ b ++ u → (a ≡ b) × (r ≡ u)
+same_fronts [] [] r u long e = (refl, e)
+same_fronts [] (y ∷ b) r u long e = absurd (omega arith)
+same_fronts (x ∷ a) [] r u long e = absurd (omega arith)
+same_fronts (x ∷ a) (y ∷ b) r u long e =
+    let shorter : length a ≡ length b = omega arith in
+    let tails : a ++ r ≡ b ++ u = cc in
+    let rest = same_fronts a b r u shorter tails in
+    let first : x ≡ y = cc in
+    (cc (first, rest.0), rest.1)

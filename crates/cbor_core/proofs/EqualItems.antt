@@ -14,6 +14,7 @@ use Rattle.cbor_core.specs.declared.item.Pair.{Pair}
 use Rattle.cbor_core.specs.Equality.{numbers_step, numbers_of, equal_items}
 use Rattle.cbor_core.proofs.Writes.{seen}
 use Rattle.cbor_core.proofs.Lawful.{by_cases}
+use Rattle.base_types.proofs.Lists.{same_fronts}
 
 -- ---- one level
 
@@ -49,10 +50,6 @@ unlike i j k l a b x y ne p q h =
     let same : k ≡ l = cc in
     absurd (false≢true (sym ne ∙ eq-eqb k l same))
 
-strings : (c d x y : List ℕ) → length c ≡ length d → c ++ x ≡ d ++ y → (c ≡ d) × (x ≡ y)
-strings c d x y l h = (
-  sym (take_at c x (length c) refl) ∙ ap (take (length c)) h ∙ take_at d y (length c) (sym l),
-  sym (drop_at c x (length c) refl) ∙ ap (drop (length c)) h ∙ drop_at d y (length c) (sym l),
 )
 
 items_front : (is js : List Item) (x y : List ℕ) → AllByRecursion Front is → length is ≡ length js → flat_map numbers_of is ++ x ≡ flat_map numbers_of js ++ y → (is ≡ js) × (x ≡ y)
@@ -111,7 +108,7 @@ module _ (x y : List ℕ) where
         let s : 2 ∷ length c ∷ (c ++ x) ≡ 2 ∷ length d ∷ (d ++ y) = as_seen _ _ _ _ x y (numbers-Blob c) (numbers-Blob d) h in
         let l : length c ≡ length d = cc in
         let t : c ++ x ≡ d ++ y = cc in
-        let both = strings c d x y l t in
+        let both = same_fronts c d x y l t in
         (ap v.Blob both.0, both.1);
     text = λ d h. unlike _ _ 2 3 _ _ x y refl (numbers-Blob c) (numbers-Text d) h;
     items = λ js e h. unlike _ _ 2 4 _ _ x y refl (numbers-Blob c) (numbers-List js) h;
@@ -126,7 +123,7 @@ module _ (x y : List ℕ) where
         let s : 3 ∷ length c ∷ (c ++ x) ≡ 3 ∷ length d ∷ (d ++ y) = as_seen _ _ _ _ x y (numbers-Text c) (numbers-Text d) h in
         let l : length c ≡ length d = cc in
         let t : c ++ x ≡ d ++ y = cc in
-        let both = strings c d x y l t in
+        let both = same_fronts c d x y l t in
         (ap v.Text both.0, both.1);
     items = λ js e h. unlike _ _ 3 4 _ _ x y refl (numbers-Text c) (numbers-List js) h;
     pairs = λ qs e h. unlike _ _ 3 5 _ _ x y refl (numbers-Text c) (numbers-Map qs) h;

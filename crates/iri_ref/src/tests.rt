@@ -338,3 +338,18 @@ fn characters_are_those_of_the_standard(rt: HostRuntime) -> Result<(), Fail> {
     }
     Ok(())
 }
+
+#[test]
+fn refusals_say_where(rt: HostRuntime) -> Result<(), Fail> {
+    let line = "no IRI holds the character at byte 3";
+    let bad = BadAt { at: 3 };
+    assert_eq!(rt; format!(in rt.alloc(); "{bad}")?.as_str(), line);
+    let fault = IriFault::BadIri(3);
+    assert_eq!(rt; format!(in rt.alloc(); "{fault}")?.as_str(), line);
+    let memory = IriFault::Memory;
+    assert_eq!(rt;
+        format!(in rt.alloc(); "{memory}")?.as_str(),
+        "out of memory"
+    );
+    Ok(())
+}

@@ -2,7 +2,7 @@
 -- each whole number is in range.
 use Rattle.std.proofs.Common.{◌≡◌, ◌↔◌, ℤ, Bool, true, false, not, ◌&&◌, ◌||◌, List, [], ◌∷◌, map, Some, None, option_and_then, refl, sym, ap, ◌∙◌, subst, inl, inr}
 use Rattle.std.specs.List.{list_all, list_any}
-use Rattle.std.proofs.lemmas.Bool.{cases_Bool, and_parts, true≢false}
+use Rattle.std.proofs.lemmas.Bool.{cases_Bool, and_parts, and_from, true≢false, not-true}
 use Rattle.std.proofs.lemmas.Option.{same_Some}
 use Rattle.json_tree.specs.declared.tree.Tree.{Tree, out-Tree, roll-Tree, roll-out-Tree}
 use Rattle.json_tree.specs.declared.tree.Tree.TheOpen.{Tree-F}
@@ -13,7 +13,6 @@ use Rattle.json_tree.specs.Places.{child_of, look}
 use Rattle.json_tree.specs.Misplaced.{step_cmp}
 use Rattle.json_tree.proofs.Induction.{Each}
 use Rattle.json_tree.proofs.Kept.{is_list, is_object, look_has}
-use Rattle.json_tree.proofs.Rising.{both_hold}
 use Rattle.json_tree.proofs.Equations.{holds_version-Null, holds_version-Bool, holds_version-Whole, holds_version-Version, holds_version-Text, holds_version-List, holds_version-Object, is_in_range-Null, is_in_range-Bool, is_in_range-Whole, is_in_range-Version, is_in_range-Text, is_in_range-List, is_in_range-Object}
 use Rattle.json_tree.proofs.Branches.{Branch, of_item, of_member, branches_in, branches_of, at_step, step_eq, child_of-branches, by_branches, StepsRise, lawful_branches, is_version}
 use Rattle.json_tree.proofs.StepOrder.{step_eq-itself, step_eq-true, first_comes_before, at_step-none, at_step-first, at_step-later}
@@ -67,7 +66,7 @@ branches_pass : (test : Tree → Bool) (here : Tree-F Tree → Bool) (bs : List 
 branches_pass test here [] e rise lawful all = refl
 branches_pass test here (b ∷ bs) e rise lawful all =
     let first : at_step b.step (b ∷ bs) ≡ Some b.value = at_step-first b bs b.step (step_eq-itself b.step) in
-    both_hold (test b.value) (list_all (λ (b : Branch). test b.value) bs)
+    and_from (test b.value) (list_all (λ (b : Branch). test b.value) bs)
     (e.0 lawful.0 (λ place u h. all b.step place u (ap (option_and_then (look place)) first ∙ h)))
     (branches_pass test here bs e.1 (each_next-tail (λ (x y : Branch). is_lt (step_cmp x.step y.step)) b bs rise) lawful.1 (passes_later here b bs rise all))
 
@@ -75,7 +74,7 @@ branches_pass test here (b ∷ bs) e rise lawful all =
 passes_by_places : (test : Tree → Bool) (here : Tree-F Tree → Bool) → Asks test here → (t : Tree) → PassesByPlaces test here t
 passes_by_places test here asks = by_branches (PassesByPlaces test here) (λ t e lawful all.
     let parts = lawful_branches t lawful in
-    asks t ∙ both_hold (here (out-Tree t)) (list_all (λ (b : Branch). test b.value) (branches_of t)) (all [] t refl)
+    asks t ∙ and_from (here (out-Tree t)) (list_all (λ (b : Branch). test b.value) (branches_of t)) (all [] t refl)
     (branches_pass test here (branches_of t) e parts.0 parts.1 (λ s place u h. all (s ∷ place) u (ap (option_and_then (look place)) (child_of-branches t s) ∙ h))))
 
 all_map : {X : Type 0} (test : Tree → Bool) (f : X → Branch) (xs : List X) → list_all (λ x. test (f x).value) xs ≡ list_all (λ (b : Branch). test b.value) (map f xs)
@@ -113,17 +112,13 @@ none_in t (Tree-F.Object members) e = ap has_none (is_object t members e) ∙ ap
 none_asks : Asks has_none is_another
 none_asks t = none_in t (out-Tree t) refl
 
-turned : (b : Bool) → not b ≡ true → b ≡ false
-turned true h = absurd (cc)
-turned false h = refl
-
 none_stands : (t : Tree) → holds_version t ≡ false → (place : List Step) → look place t ≡ Some v.Version → ⊥
 none_stands t none place h =
     let passes : is_another (out-Tree v.Version) ≡ true = passes_all has_none is_another none_asks t (ap not none) place v.Version h in
-    true≢false (sym (is_version-Version v.Version refl) ∙ turned (is_version (out-Tree v.Version)) passes)
+    true≢false (sym (is_version-Version v.Version refl) ∙ not-true (is_version (out-Tree v.Version)) passes)
 
 stands_nowhere : (t : Tree) → is_lawful t ≡ true → ((place : List Step) → look place t ≡ Some v.Version → ⊥) → holds_version t ≡ false
-stands_nowhere t lawful none = turned (holds_version t) (passes_by_places has_none is_another none_asks t lawful (λ place u h. elim (cases_Bool (is_version (out-Tree u))) [
+stands_nowhere t lawful none = not-true (holds_version t) (passes_by_places has_none is_another none_asks t lawful (λ place u h. elim (cases_Bool (is_version (out-Tree u))) [
   | inl this ↦ absurd (none place (h ∙ ap Some (is_number u (out-Tree u) refl this)))
   | inr other ↦ ap not other
 ]))

@@ -181,6 +181,6 @@ pub fn a_member_taken_out()
     ensures others { (key other : List ℕ) (t : Tree) (steps : List Step) → (key ≡ other → ⊥)
         → look (Key other ∷ steps) (without key t) ≡ look (Key other ∷ steps) t }
     ensures undone { (key : List ℕ) (value t : Tree) (ms : List (Member Tree))
-        → members_of t ≡ Some ms → is_lawful t ≡ true → look (Key key ∷ []) t ≡ None
+        → members_of t ≡ Some ms → look (Key key ∷ []) t ≡ None
         → without key (with_member key value t) ≡ t }
 {}

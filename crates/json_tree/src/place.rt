@@ -5,6 +5,7 @@ ghost use Rattle.std.specs.Option.{MatchOption};
 
 use base_types::{Memory, Sequence, Text};
 use std::alloc::Global;
+use std::fmt;
 
 /// One step down a tree.
 #[derive(Clone, Debug, Drop)]
@@ -19,6 +20,35 @@ pub enum Step {
 #[derive(Clone, Debug, Drop)]
 pub struct Place {
     pub steps: Sequence<Step>,
+}
+
+impl fmt::Display for Step {
+    /// The reference token of the step. RFC 6901, sections 3 and 4.
+    fn fmt<W: fmt::Write>(&self, f: &mut fmt::Formatter<W>) -> fmt::Result {
+        match self {
+            Step::Key(key) => {
+                for character in key.as_str().chars() {
+                    match character {
+                        '~' => f.write_str("~0")?,
+                        '/' => f.write_str("~1")?,
+                        _ => f.write_char(character)?,
+                    }
+                }
+                Ok(())
+            }
+            Step::At(at) => write!(f, "{at}"),
+        }
+    }
+}
+
+impl fmt::Display for Place {
+    /// The JSON Pointer of the place. RFC 6901.
+    fn fmt<W: fmt::Write>(&self, f: &mut fmt::Formatter<W>) -> fmt::Result {
+        for step in self.steps.as_slice() {
+            write!(f, "/{step}")?;
+        }
+        Ok(())
+    }
 }
 
 impl Place {

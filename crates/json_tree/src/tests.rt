@@ -375,3 +375,33 @@ fn a_member_is_put_in_at_its_place(rt: HostRuntime) -> Result<(), Fail> {
     }
     Ok(())
 }
+
+#[test]
+fn faults_say_why(rt: HostRuntime) -> Result<(), Fail> {
+    let alloc = rt.alloc();
+    let json = TreeFault::NotJson;
+    assert_eq!(rt;
+        format!(in alloc; "{json}")?.as_str(),
+        "the bytes are no JSON text"
+    );
+    let deep = TreeFault::TooDeep;
+    assert_eq!(rt;
+        format!(in alloc; "{deep}")?.as_str(),
+        "the text nests more than 100 deep"
+    );
+    let memory = TreeFault::Memory;
+    assert_eq!(rt; format!(in alloc; "{memory}")?.as_str(), "out of memory");
+    Ok(())
+}
+
+#[test]
+fn a_fault_names_its_place(rt: HostRuntime) -> Result<(), Fail> {
+    match read(rt.alloc(), b"{\"a/b\":[0,{\"~\":1.5}]}") {
+        Ok(_) => assert!(rt; false, "it was read"),
+        Err(fault) => {
+            let line = "the number at `/a~1b/1/~0` is not whole";
+            assert_eq!(rt; format!(in rt.alloc(); "{fault}")?.as_str(), line);
+        }
+    }
+    Ok(())
+}

@@ -6,6 +6,7 @@ ghost use Rattle.std.specs.Option.{option_copied};
 use crate::place::Place;
 use base_types::{Items, Memory, Text};
 use std::alloc::AllocError;
+use std::fmt;
 
 /// A JSON value whose numbers are whole.
 #[derive(Debug, Drop)]
@@ -46,6 +47,17 @@ pub enum TreeFault {
     TooDeep,
     /// Out of memory.
     Memory,
+}
+
+impl fmt::Display for TreeFault {
+    fn fmt<W: fmt::Write>(&self, f: &mut fmt::Formatter<W>) -> fmt::Result {
+        match self {
+            TreeFault::NotJson => f.write_str("the bytes are no JSON text"),
+            TreeFault::NotWhole(place) => write!(f, "the number at `{place}` is not whole"),
+            TreeFault::TooDeep => f.write_str("the text nests more than 100 deep"),
+            TreeFault::Memory => f.write_str("out of memory"),
+        }
+    }
 }
 
 impl From<Memory> for TreeFault {

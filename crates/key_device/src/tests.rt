@@ -148,3 +148,21 @@ fn names_and_tables(rt: HostRuntime) -> Result<(), Fail> {
     assert_eq!(rt; table.find("urn:"), None);
     Ok(())
 }
+
+#[test]
+fn errors_say_why(rt: HostRuntime) -> Result<(), Fail> {
+    let failed = DeviceError::Failed;
+    assert_eq!(rt;
+        format!(in rt.alloc(); "{failed}")?.as_str(),
+        "the key device failed"
+    );
+    let no_key = DeviceError::NoKey;
+    let line = "the key device does not own the key";
+    assert_eq!(rt; format!(in rt.alloc(); "{no_key}")?.as_str(), line);
+    let memory = DeviceError::Memory;
+    assert_eq!(rt;
+        format!(in rt.alloc(); "{memory}")?.as_str(),
+        "out of memory"
+    );
+    Ok(())
+}

@@ -5,7 +5,7 @@ use Rattle.json_tree.specs.declared.tree.Tree.TheVariants as v
 use Rattle.json_tree.specs.declared.tree.Member.{Member}
 use Rattle.json_tree.specs.Trees.{new_member, is_lawful}
 use Rattle.json_tree.specs.Places.{members_of}
-use Rattle.json_tree.proofs.Rising.{both_hold}
+use Rattle.std.proofs.lemmas.Bool.{and_from}
 use Rattle.json_tree.proofs.MemberChanges.{without_lawful, put_lawful, members_of-with_members, lawful_object, is_lawful-with_members}
 use Rattle.json_tree.proofs.TreeLemmas.{is_lawful-Text, members_of-Object}
 use Rattle.nquads.specs.Terms.{Statement}
@@ -29,7 +29,7 @@ taking_is_lawful name t lawful =
 
 -- the request that is made of two lawful trees is lawful
 pub request_is_lawful : (contexts t : Tree) → is_lawful contexts ≡ true → is_lawful t ≡ true → is_lawful (statements_request contexts t) ≡ true
-request_is_lawful contexts t one two = lawful_object _ (record { rising = refl; values = both_hold (is_lawful contexts) _ one (both_hold (is_lawful t) true two refl) })
+request_is_lawful contexts t one two = lawful_object _ (record { rising = refl; values = and_from (is_lawful contexts) _ one (and_from (is_lawful t) true two refl) })
 
 -- ---- options
 

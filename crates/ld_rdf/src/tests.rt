@@ -231,3 +231,18 @@ fn options_take_the_given_context(rt: HostRuntime) -> Result<(), Fail> {
     }
     Ok(())
 }
+
+#[test]
+fn faults_say_why(rt: HostRuntime) -> Result<(), Fail> {
+    let not_built = FlatFault::NotBuilt;
+    assert_eq!(rt;
+        format!(in rt.alloc(); "{not_built}")?.as_str(),
+        "the request is not flat"
+    );
+    let memory = FlatFault::Memory;
+    assert_eq!(rt;
+        format!(in rt.alloc(); "{memory}")?.as_str(),
+        "out of memory"
+    );
+    Ok(())
+}

@@ -33,7 +33,10 @@ pub enum CanonFault {
 impl fmt::Display for CanonFault {
     fn fmt<W: fmt::Write>(&self, f: &mut fmt::Formatter<W>) -> fmt::Result {
         match self {
-            CanonFault::TooMuchWork(most) => write!(f, "more than {most} arrangements would be evaluated"),
+            CanonFault::TooMuchWork(most) => write!(
+                f,
+                "more than {most} arrangements would be evaluated"
+            ),
             CanonFault::TooDeep(most) => write!(f, "more than {most} calls would be open at once"),
             CanonFault::Memory => f.write_str("out of memory"),
         }

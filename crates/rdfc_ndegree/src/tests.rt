@@ -2,7 +2,7 @@
 use crate::arrangements::Arrangements;
 use crate::building::node_table;
 use crate::canonical::Canonical;
-use crate::limits::{Limits, Meter};
+use crate::limits::{CanonFault, Limits, Meter};
 use crate::related::related_groups;
 use crate::table::NodeTable;
 use crate::walk::{push_path_part, walk_over};
@@ -199,5 +199,21 @@ fn arrangements_come_in_order(rt: HostRuntime) -> Result<(), Memory> {
         }
         assert!(rt; left.next(rt.alloc())?.is_none());
     }
+    Ok(())
+}
+
+#[test]
+fn faults_say_which_limit(rt: HostRuntime) -> Result<(), Fail> {
+    let work = CanonFault::TooMuchWork(5);
+    let line = "more than 5 arrangements would be evaluated";
+    assert_eq!(rt; format!(in rt.alloc(); "{work}")?.as_str(), line);
+    let deep = CanonFault::TooDeep(6);
+    let line = "more than 6 calls would be open at once";
+    assert_eq!(rt; format!(in rt.alloc(); "{deep}")?.as_str(), line);
+    let memory = CanonFault::Memory;
+    assert_eq!(rt;
+        format!(in rt.alloc(); "{memory}")?.as_str(),
+        "out of memory"
+    );
     Ok(())
 }

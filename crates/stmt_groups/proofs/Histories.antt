@@ -10,7 +10,7 @@ use Rattle.std.proofs.lemmas.List.Elements.{Contains-append_cases, Contains-push
 use Rattle.sha2.specs.Sha256.{sha256}
 use Rattle.sha2.proofs.Facts256.{length-sha256}
 use Rattle.base_types.specs.Sets.{AllDiffer}
-use Rattle.base_types.proofs.Lists.{Contains-here, Contains-there, Contains-nil, Contains-from_map}
+use Rattle.base_types.proofs.Lists.{Contains-here, Contains-there, Contains-nil, Contains-from_map, same_fronts}
 use Rattle.key_device.specs.declared.keys.KeyName.{KeyName}
 use Rattle.stmt_groups.specs.declared.types.BaseRecord.{BaseRecord}
 use Rattle.stmt_groups.specs.Records.{Signing, signing, record_signings, history_signings, sign_data}
@@ -50,26 +50,15 @@ same_bytes k l xs ys e = ap (λ (x : Signing). x.bytes) e
 
 -- ---- sign data names its parts
 
-cut : (a b r u : List ℕ) → length a ≡ length b → a ++ r ≡ b ++ u → (a ≡ b) × (r ≡ u)
-cut [] [] r u long e = (refl, e)
-cut [] (y ∷ b) r u long e = absurd (omega arith)
-cut (x ∷ a) [] r u long e = absurd (omega arith)
-cut (x ∷ a) (y ∷ b) r u long e =
-    let shorter : length a ≡ length b = omega arith in
-    let tails : a ++ r ≡ b ++ u = cc in
-    let rest = cut a b r u shorter tails in
-    let first : x ≡ y = cc in
-    (cc (first, rest.0), rest.1)
-
 -- equal sign data has equal digests and one key
 pub sign_data_parts : (o p : List (List ℕ)) (k l : KeyName) (m n : List (List ℕ)) → sign_data o k m ≡ sign_data p l n → (sha256 (concat o) ≡ sha256 (concat p)) × (k ≡ l) × (sha256 (concat m) ≡ sha256 (concat n))
 sign_data_parts o p k l m n e =
-    let first = cut (sha256 (concat o)) (sha256 (concat p)) (k.bytes ++ sha256 (concat m)) (l.bytes ++ sha256 (concat n)) (length-sha256 (concat o) ∙ sym (length-sha256 (concat p))) e in
+    let first = same_fronts (sha256 (concat o)) (sha256 (concat p)) (k.bytes ++ sha256 (concat m)) (l.bytes ++ sha256 (concat n)) (length-sha256 (concat o) ∙ sym (length-sha256 (concat p))) e in
     let one = length-sha256 (concat m) in
     let two = length-sha256 (concat n) in
     let tails : length (k.bytes ++ sha256 (concat m)) ≡ length (l.bytes ++ sha256 (concat n)) = ap length first.1 in
     let long : length k.bytes ≡ length l.bytes = omega (arith, length-append k.bytes (sha256 (concat m)), length-append l.bytes (sha256 (concat n))) in
-    let second = cut k.bytes l.bytes (sha256 (concat m)) (sha256 (concat n)) long first.1 in
+    let second = same_fronts k.bytes l.bytes (sha256 (concat m)) (sha256 (concat n)) long first.1 in
     let key : k ≡ l = (λ i. record { bytes = second.0 i }) in
     (first.0, key, second.1)
 

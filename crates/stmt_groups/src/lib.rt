@@ -4,6 +4,8 @@
 #![tactic(auto)]
 
 pub mod laws;
+#[cfg(test)]
+mod tests;
 mod types;
 
 pub use base_types::{Memory, Sequence, Text};

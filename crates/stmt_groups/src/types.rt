@@ -34,7 +34,7 @@ pub struct PointerRefusal {
 }
 
 /// Why a document does not verify.
-#[derive(Debug, Drop)]
+#[derive(Debug, Drop, PartialEq, Eq)]
 pub enum Cause {
     /// It has no statement.
     Nothing,
@@ -75,7 +75,10 @@ impl fmt::Display for Cause {
             }
             Cause::BaseSignature => f.write_str("the issuer's signature is not accepted"),
             Cause::StatementSignature(place) => {
-                write!(f, "the signature of the statement at place {place} is not accepted")
+                write!(
+                    f,
+                    "the signature of the statement at place {place} is not accepted"
+                )
             }
         }
     }
@@ -84,7 +87,7 @@ impl fmt::Display for Cause {
 /// What was signed with one base proof: the issuer's key, the statement key, and the canonical
 /// lines of the proof options, of the mandatory statements and of the others, each in code-point
 /// order.
-#[derive(Debug, Drop)]
+#[derive(Debug, Drop, PartialEq, Eq)]
 pub struct BaseRecord {
     pub issuer: KeyName,
     pub key: KeyName,

@@ -27,9 +27,10 @@ use Rattle.vc_cli.specs.Requests.{at, issue_object, whole_document}
 use Rattle.vc_cli.specs.Internal.Tasks.{IsIssueTask}
 use Rattle.vc_cli.specs.Internal.Drafts.{IsObject, IsPrintable}
 use Rattle.vc_cli.specs.Internal.Parts.{IsIssueRead}
-use Rattle.vc_cli.proofs.Looks.{look_in, members_of-changed}
+use Rattle.vc_cli.proofs.Looks.{look_in}
 use Rattle.vc_cli.proofs.Putting.{put_contains, with_member-lawful}
 use Rattle.base_types.proofs.Orders.{bytes_eq-true, bytes_eq-same}
+use Rattle.json_tree.proofs.MemberChanges.{members_of-with_members}
 
 abbrev keys : List (Member Tree) → List (List ℕ)
 keys ms = map (λ m. m.key) ms
@@ -82,7 +83,7 @@ pub option_texts : (c o : Tree) (name : List ℕ) → IsFlat (statements_request
 option_texts c o name f lawful none =
     let x : Member Tree = new_member at_context (v.Text name) in
     let found = flat_members c (with_context name o) f.names f.document in
-    let inner = option_map-Some (put_member x) (members_of o) found.0 (sym (members_of-changed (put_member x) o) ∙ found.1) in
+    let inner = option_map-Some (put_member x) (members_of o) found.0 (sym (members_of-with_members (put_member x) o) ∙ found.1) in
     let is_object : o ≡ v.Object inner.0 = members_of-Some o inner.0 inner.1 in
     let object_lawful : is_lawful (v.Object inner.0) ≡ true = ap is_lawful (sym is_object) ∙ lawful in
     let taken_lawful : is_lawful (with_context name o) ≡ true = ap (λ t. is_lawful (with_context name t)) is_object ∙ with_member-lawful at_context (v.Text name) inner.0 (is_lawful-Text name) object_lawful in

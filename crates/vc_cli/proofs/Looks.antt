@@ -19,6 +19,7 @@ use Rattle.ld_rdf.proofs.OptionsAndLists.{and_then-Some, provided-Some, map_or-t
 use Rattle.vc_cli.specs.Requests.{HasShape, at, value_name}
 use Rattle.vc_cli.specs.Internal.Parts.{has_form, has_text, lacks, method_in, text_under}
 use Rattle.base_types.proofs.Orders.{bytes_eq-true, bytes_eq-same}
+use Rattle.json_tree.proofs.MemberChanges.{members_of-with_members, value_gone, without_absent}
 
 -- ---- one step
 
@@ -163,19 +164,6 @@ form_from t u method same s = record {
 
 -- ---- without a member
 
--- the members of a changed object are the changed members
-pub members_of-changed : (f : List (Member Tree) → List (Member Tree)) (t : Tree) → members_of (with_members f t) ≡ option_map f (members_of t)
-members_of-changed f t = by_level (out-Tree t) refl
-  where
-    by_level : (x : Tree-F Tree) → out-Tree t ≡ x → members_of (with_members_in f t x) ≡ option_map f (members_in x)
-    by_level Tree-F.Null e = ap members_in e
-    by_level (Tree-F.Bool b) e = ap members_in e
-    by_level (Tree-F.Whole z) e = ap members_in e
-    by_level Tree-F.Version e = ap members_in e
-    by_level (Tree-F.Text s) e = ap members_in e
-    by_level (Tree-F.List items) e = ap members_in e
-    by_level (Tree-F.Object ms) e = members_of-Object (f ms)
-
 value_of-without : (key other : List ℕ) (ms : List (Member Tree)) → bytes_eq other key ≡ false → value_of key (without_key other ms) ≡ value_of key ms
 value_of-without key other [] differ = refl
 value_of-without key other (m ∷ ms) differ =
@@ -186,37 +174,22 @@ value_of-without key other (m ∷ ms) differ =
       | inr kept ↦ elim (cases_Bool (bytes_eq m.key key)) [ inl here ↦ rw (kept, here) refl | inr other_key ↦ rw (kept, other_key) (value_of-without key other ms differ) ]
     ]
 
-value_of-removed : (key : List ℕ) (ms : List (Member Tree)) → value_of key (without_key key ms) ≡ None
-value_of-removed key [] = refl
-value_of-removed key (m ∷ ms) = elim (cases_Bool (bytes_eq m.key key)) [ inl this ↦ rw this (value_of-removed key ms) | inr kept ↦ rw (kept, kept) (value_of-removed key ms) ]
-
-absent_stays : (key : List ℕ) (ms : List (Member Tree)) → value_of key ms ≡ None → without_key key ms ≡ ms
-absent_stays key [] h = refl
-absent_stays key (m ∷ ms) h =
-    elim (cases_Bool (bytes_eq m.key key)) [
-      | inl this ↦ let found : value_of key (m ∷ ms) ≡ Some m.value = rw this refl in absurd (cc)
-      | inr other_key ↦
-          let later : value_of key (m ∷ ms) ≡ value_of key ms = rw other_key refl in
-          let rest = absent_stays key ms (sym later ∙ h) in
-          rw other_key (ap (λ (ns : List (Member Tree)). m ∷ ns) rest)
-    ]
-
 through_without : (key other : List ℕ) (o : Option (List (Member Tree))) → bytes_eq other key ≡ false → option_and_then (value_of key) (option_map (without_key other) o) ≡ option_and_then (value_of key) o
 through_without key other None differ = refl
 through_without key other (Some ms) differ = value_of-without key other ms differ
 
 through_removed : (key : List ℕ) (o : Option (List (Member Tree))) → option_and_then (value_of key) (option_map (without_key key) o) ≡ None
 through_removed key None = refl
-through_removed key (Some ms) = value_of-removed key ms
+through_removed key (Some ms) = value_gone key ms
 
 -- a tree without a member is the same beside it
 pub look_without : (t : Tree) (other : List ℕ) → SameBeside other t (without other t)
 look_without t other = λ key differ.
-    look_at (without other t) key ∙ ap (option_and_then (value_of key)) (members_of-changed (without_key other) t) ∙ through_without key other (members_of t) differ ∙ sym (look_at t key)
+    look_at (without other t) key ∙ ap (option_and_then (value_of key)) (members_of-with_members (without_key other) t) ∙ through_without key other (members_of t) differ ∙ sym (look_at t key)
 
 -- a member that is taken out is not there
 pub look_removed : (t : Tree) (key : List ℕ) → look (at key) (without key t) ≡ None
-look_removed t key = look_at (without key t) key ∙ ap (option_and_then (value_of key)) (members_of-changed (without_key key) t) ∙ through_removed key (members_of t)
+look_removed t key = look_at (without key t) key ∙ ap (option_and_then (value_of key)) (members_of-with_members (without_key key) t) ∙ through_removed key (members_of t)
 
 -- to take out what is not there changes nothing
 pub without_absent : (key : List ℕ) (t : Tree) → look (at key) t ≡ None → without key t ≡ t
@@ -231,7 +204,7 @@ without_absent key t none = by_level (out-Tree t) refl
     by_level (Tree-F.List items) e = refl
     by_level (Tree-F.Object ms) e =
         let is : members_of t ≡ Some ms = ap members_in e in
-        ap v.Object (absent_stays key ms (sym (look_in t ms key is) ∙ none)) ∙ sym (members_of-Some t ms is)
+        ap v.Object (without_absent key ms (sym (look_in t ms key is) ∙ none)) ∙ sym (members_of-Some t ms is)
 
 -- ---- what holds of each value
 

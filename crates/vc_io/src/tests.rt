@@ -216,3 +216,26 @@ fn adapts_writers(rt: HostRuntime) -> Result<(), Fail> {
     assert_eq!(rt; broken.faults(), 1);
     Ok(())
 }
+
+#[test]
+fn faults_say_what_failed(rt: HostRuntime) -> Result<(), Fail> {
+    let alloc = rt.alloc();
+    assert_eq!(rt;
+        format!(in alloc; "{Failed}")?.as_str(),
+        "a read or a write failed"
+    );
+    assert_eq!(rt;
+        format!(in alloc; "{WriteFailed}")?.as_str(),
+        "a write failed"
+    );
+    let failed = ReadAllFault::Failed;
+    assert_eq!(rt; format!(in alloc; "{failed}")?.as_str(), "a read failed");
+    let long = ReadAllFault::TooLong(7);
+    assert_eq!(rt;
+        format!(in alloc; "{long}")?.as_str(),
+        "there are more than 7 bytes"
+    );
+    let memory = ReadAllFault::Memory;
+    assert_eq!(rt; format!(in alloc; "{memory}")?.as_str(), "out of memory");
+    Ok(())
+}

@@ -8,4 +8,4 @@ pub returns-clause-others : goal.returns-clause-others
 returns-clause-others c = taken_leaves_others
 
 pub returns-clause-undone : goal.returns-clause-undone
-returns-clause-undone c key value t ms of lawful = put_undone key value t ms of
+returns-clause-undone c key value t ms of = put_undone key value t ms of
