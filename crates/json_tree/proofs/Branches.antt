@@ -26,12 +26,15 @@ pub record Branch : Type 0 where
   pub step : Step
   pub value : Tree
 
+-- an element as a branch
 abbrev pub of_item : Item Tree → Branch
 of_item i = record { step = At i.at; value = i.value }
 
+-- a member as a branch
 abbrev pub of_member : Member Tree → Branch
 of_member m = record { step = Key m.key; value = m.value }
 
+-- the branches of one level
 abbrev pub branches_in : Tree-F Tree → List Branch
 branches_in Tree-F.Null = []
 branches_in (Tree-F.Bool b) = []
@@ -41,6 +44,7 @@ branches_in (Tree-F.Text text) = []
 branches_in (Tree-F.List items) = map of_item items
 branches_in (Tree-F.Object members) = map of_member members
 
+-- the branches from a tree's root
 abbrev pub branches_of : Tree → List Branch
 branches_of t = branches_in (out-Tree t)
 

@@ -127,10 +127,11 @@ abbrev pub pointer_of : List Step → List ℕ
 pointer_of [] = []
 pointer_of (step ∷ steps) = 47 ∷ (token_of step ++ pointer_of steps)
 
--- whether each index is one of 64 bits, as those of a list that was read
+-- whether the step is a name, or an index of 64 bits
 abbrev pub is_word_step : Step → Bool
 is_word_step (Key key) = true
 is_word_step (At at) = nat_lt at (2 ^ 64)
 
+-- Whether each index is one of 64 bits, as those of a list that was read.
 abbrev pub has_word_indexes : List Step → Bool
 has_word_indexes place = list_all is_word_step place
