@@ -6,20 +6,17 @@ use Rattle.std.proofs.Math.Seq.{take-suc}
 use Rattle.std.proofs.lemmas.List.Folds.{list_all_more}
 use Rattle.std.proofs.lemmas.Bool.{eq-eqb, and_parts}
 use Rattle.std.proofs.lemmas.List.{map-append, take_all, take_more}
-use Rattle.cbor_core.specs.declared.item.Item.{Item, fold-roll-Item}
-use Rattle.cbor_core.specs.declared.item.Item.TheOpen.{Item-F}
+use Rattle.cbor_core.specs.declared.item.Item.{Item}
 use Rattle.cbor_core.specs.declared.item.Item.TheVariants as v
 use Rattle.cbor_core.specs.declared.item.Pair.{Pair}
-use Rattle.cbor_core.specs.Writing.{largest_over, nesting_step, item_nesting, count_of, keys_rise_step, keys_rise, encoding_of, fits}
+use Rattle.cbor_core.specs.Writing.{largest_over, item_nesting, count_of, keys_rise, encoding_of, fits}
 use Rattle.base_types.specs.Order.{rise}
 use Rattle.cbor_core.proofs.Lawful.{nesting-List, nesting-Map, rise-List, rise-Map, count-List, count-Blob, of-List, is_spelled}
 use Rattle.cbor_core.proofs.Writes.{fits-Blob, fits-List}
 use Rattle.cbor_core.specs.Grammar.{Encodes}
 use Rattle.base_types.specs.declared.memory.Memory.{Memory}
-use Rattle.proof_cbor.specs.Internal.Reading.{reading_base, reading_derived}
 use Rattle.cbor_core.proofs.Sorted.{kept, nesting-Whole, rise-Whole, nesting-Blob, rise-Blob, nesting-Text, rise-Text}
 use Rattle.proof_cbor.specs.declared.fault.ValueFault.{ValueFault}
-use Rattle.proof_cbor.proofs.Spelled.{base_read, derived_read}
 use Rattle.proof_cbor.specs.declared.value.BaseValue.{BaseValue}
 use Rattle.proof_cbor.specs.declared.value.DerivedValue.{DerivedValue}
 use Rattle.proof_cbor.specs.declared.value.MapEntry.{MapEntry}

@@ -1,23 +1,22 @@
 -- The parts of an item are refused by the relation exactly where looking them up ends with this fault.
-use Rattle.std.proofs.Common.{◌≡◌, ◌≢◌, ℕ, Bool, true, false, cond, eqb, List, [], ◌∷◌, length, map, Option, Some, None, Result, Ok, Err, refl, sym, ap, subst, ◌∙◌, inl, inr}
+use Rattle.std.proofs.Common.{◌≡◌, ◌≢◌, ℕ, Bool, true, false, cond, eqb, List, length, map, Option, Some, None, Result, Ok, Err, refl, sym, ap, ◌∙◌, inl, inr}
 use Rattle.std.specs.Prelude.{◌⊎◌}
 use Rattle.std.specs.Option.{option_and_then, ok_or}
 use Rattle.std.specs.List.{list_all}
-use Rattle.std.proofs.lemmas.Bool.{eqb-true, eqb-false, eq-eqb, false≢true, true≢false}
+use Rattle.std.proofs.lemmas.Bool.{eqb-true, eqb-false, false≢true}
 use Rattle.cbor_core.specs.declared.item.Item.{Item, out-Item}
 use Rattle.cbor_core.specs.declared.item.Item.TheVariants as v
 use Rattle.cbor_core.specs.declared.item.Pair.{Pair}
 use Rattle.cbor_core.specs.Internal.Results.{◌>>=◌}
-use Rattle.cbor_core.proofs.Outcomes.{same_ok, same_err, stopped, goes_on}
+use Rattle.cbor_core.proofs.Outcomes.{same_err, stopped, goes_on}
 use Rattle.base_types.specs.Order.{rise}
 use Rattle.proof_cbor.specs.declared.fault.Part.{Part}
 use Rattle.proof_cbor.specs.declared.fault.Part.TheVariants as part
 use Rattle.proof_cbor.specs.declared.fault.ValueFault.{ValueFault}
 use Rattle.proof_cbor.specs.declared.fault.ValueFault.TheVariants as fault
-use Rattle.proof_cbor.specs.declared.value.MapEntry.{MapEntry}
-use Rattle.proof_cbor.specs.Values.{all_sized, digests_sized, pair_of}
+use Rattle.proof_cbor.specs.Values.{pair_of}
 use Rattle.proof_cbor.specs.Refusals.{IsBlob, IsBlobOf, AreBlobs, AreBlobsOf, IsLabelMap, IsDigestMap, AreTexts, AreWholes, AreRising, RefusesPart, Five, list_of, RefusesBaseParts, RefusesDerivedParts, RefusesFive}
-use Rattle.proof_cbor.specs.Internal.Reading.{list_level, map_level, blob_kind, text_kind, whole_kind, entry_kind, digest_size, each_is, one_of, ones_of, of_size, blob_of, blobs_of, texts_of, wholes_of, label_entries_of, five_items, five_parts, base_of, derived_of}
+use Rattle.proof_cbor.specs.Internal.Reading.{list_level, map_level, blob_kind, text_kind, whole_kind, entry_kind, digest_size, each_is, ones_of, of_size, blob_of, blobs_of, texts_of, wholes_of, label_entries_of, five_items, five_parts, base_of, derived_of}
 use Rattle.proof_cbor.proofs.Inverses.{blob_back, text_back, whole_back, list_back, map_back, entry_back, blob_forth, text_forth, whole_forth, entry_forth, each_back, each_forth, parts_found, parts_again, wholes_found}
 
 -- what looking up one part answers, as the relation has it

@@ -1,10 +1,10 @@
 -- A text is refused by the relation exactly where reading it ends with this fault.
-use Rattle.std.proofs.Common.{◌≡◌, ◌≢◌, ℕ, ◌+◌, ◌≤◌, ◌<◌, Bool, true, false, cond, eqb, List, [], ◌∷◌, ◌++◌, length, take, drop, Result, Ok, Err, refl, sym, ap, subst, ◌∙◌, inl, inr}
+use Rattle.std.proofs.Common.{◌≡◌, ◌≢◌, ℕ, ◌+◌, ◌<◌, Bool, true, false, eqb, List, [], ◌∷◌, ◌++◌, length, take, drop, Result, Ok, Err, refl, sym, ap, subst, ◌∙◌, inl, inr}
 use Rattle.std.specs.Prelude.{◌⊎◌}
 use Rattle.std.specs.Str.{bytes_eq}
 use Rattle.std.proofs.lemmas.Bool.{true≢false}
 use Rattle.std.proofs.lemmas.Slice.Eq.{bytes_eq-Decides}
-use Rattle.std.proofs.lemmas.List.{take-append-drop, get_or-drop, take_at, drop_at}
+use Rattle.std.proofs.lemmas.List.{get_or-drop, take_at, drop_at}
 use Rattle.base64.specs.Engines.{url_safe_no_pad}
 use Rattle.base64.specs.GeneralPurpose.{IsBytes, decode_of}
 use Rattle.base64.specs.declared.decode.DecodeError.{DecodeError}
@@ -20,8 +20,8 @@ use Rattle.proof_cbor.specs.declared.fault.ValueFault.{ValueFault}
 use Rattle.proof_cbor.specs.declared.fault.ValueFault.TheVariants as f
 use Rattle.proof_cbor.specs.declared.value.BaseValue.{BaseValue}
 use Rattle.proof_cbor.specs.declared.value.DerivedValue.{DerivedValue}
-use Rattle.proof_cbor.specs.Values.{base_header, derived_header, IsText, SpellsBase, SpellsDerived}
-use Rattle.proof_cbor.specs.Refusals.{Five, RefusesBaseParts, RefusesDerivedParts, RefusesFive, RefusesBytes, RefusesText, RefusesBase, RefusesDerived, ReadsBase, ReadsDerived}
+use Rattle.proof_cbor.specs.Values.{base_header, derived_header, IsText}
+use Rattle.proof_cbor.specs.Refusals.{Five, RefusesBaseParts, RefusesDerivedParts, RefusesFive, RefusesBytes, RefusesText, ReadsBase, ReadsDerived}
 use Rattle.proof_cbor.specs.Internal.Reading.{is_memory, base_of, derived_of, base64_result, multibase_bytes, behind, item_of, item_behind, reading_base, reading_derived}
 use Rattle.proof_cbor.proofs.Refusing.{base_stops, base_refused, derived_stops, derived_refused}
 use Rattle.proof_cbor.proofs.Spelled.{bytes_again, item_again, item_found, front_back, base_read, derived_read, base_spelled, derived_spelled}
