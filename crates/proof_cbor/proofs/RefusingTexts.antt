@@ -21,7 +21,7 @@ use Rattle.proof_cbor.specs.declared.fault.ValueFault.TheVariants as f
 use Rattle.proof_cbor.specs.declared.value.BaseValue.{BaseValue}
 use Rattle.proof_cbor.specs.declared.value.DerivedValue.{DerivedValue}
 use Rattle.proof_cbor.specs.Values.{base_header, derived_header, IsText}
-use Rattle.proof_cbor.specs.Refusals.{Five, RefusesBaseParts, RefusesDerivedParts, RefusesFive, RefusesBytes, RefusesText, ReadsBase, ReadsDerived}
+use Rattle.proof_cbor.specs.Refusals.{Five, RefusesBaseParts, RefusesDerivedParts, RefusesFive, RefusesBytes, RefusesMultibase, ReadsBase, ReadsDerived}
 use Rattle.proof_cbor.specs.Internal.Reading.{is_memory, base_of, derived_of, base64_result, multibase_bytes, behind, item_of, item_behind, reading_base, reading_derived}
 use Rattle.proof_cbor.proofs.Refusing.{base_stops, base_refused, derived_stops, derived_refused}
 use Rattle.proof_cbor.proofs.Spelled.{bytes_again, item_again, item_found, front_back, base_read, derived_read, base_spelled, derived_spelled}
@@ -64,13 +64,13 @@ bytes_stop header Refuses bytes e three small h =
     ]
 
 module _ (header : List ℕ) (three : length header ≡ 3) (Refuses : Five → ValueFault → Type 0) where
-  pub text_stops : (text : List ℕ) (e : ValueFault) → multibase_bytes text ≡ Err e → RefusesText header Refuses text e
+  pub text_stops : (text : List ℕ) (e : ValueFault) → multibase_bytes text ≡ Err e → RefusesMultibase header Refuses text e
   text_stops text e h = inl ((λ bytes t. absurd (let both = sym (bytes_again text bytes t) ∙ h in cc)), no_multibase text e h)
 
-  pub item_stops : (text bytes : List ℕ) (e : ValueFault) → IsText text bytes → item_behind header bytes ≡ Err e → RefusesText header Refuses text e
+  pub item_stops : (text bytes : List ℕ) (e : ValueFault) → IsText text bytes → item_behind header bytes ≡ Err e → RefusesMultibase header Refuses text e
   item_stops text bytes e t h = inr (bytes, t, bytes_stop header Refuses bytes e three t.0 h)
 
-  pub parts_stop : (text bytes : List ℕ) (item : Item) (e : ValueFault) → IsText text bytes → item_behind header bytes ≡ Ok item → RefusesFive Refuses item e → RefusesText header Refuses text e
+  pub parts_stop : (text bytes : List ℕ) (item : Item) (e : ValueFault) → IsText text bytes → item_behind header bytes ≡ Ok item → RefusesFive Refuses item e → RefusesMultibase header Refuses text e
   parts_stop text bytes item e t h r =
       let s = item_found header text bytes item t h in
       inr (header ++ s.1, s.4, inr (s.1, refl, inr (item, s.0, s.2, s.3, r)))

@@ -107,17 +107,17 @@ RefusesBytes header Refuses bytes fault =
     × RefusesFive Refuses item fault)))
 
 -- The text is not `u` and strict base64url without padding, or its bytes are refused.
-abbrev pub RefusesText : List ℕ → (Five → ValueFault → Type 0) → List ℕ → ValueFault → Type 0
-RefusesText header Refuses text fault =
+abbrev pub RefusesMultibase : List ℕ → (Five → ValueFault → Type 0) → List ℕ → ValueFault → Type 0
+RefusesMultibase header Refuses text fault =
     (((bytes : List ℕ) → IsText text bytes → ⊥) × (fault ≡ NotMultibase))
     ⊎ ((bytes : List ℕ) × IsText text bytes × RefusesBytes header Refuses bytes fault)
 
 -- The text is refused as a base value, or as a derived value.
 abbrev pub RefusesBase : List ℕ → ValueFault → Type 0
-RefusesBase text fault = RefusesText base_header RefusesBaseParts text fault
+RefusesBase text fault = RefusesMultibase base_header RefusesBaseParts text fault
 
 abbrev pub RefusesDerived : List ℕ → ValueFault → Type 0
-RefusesDerived text fault = RefusesText derived_header RefusesDerivedParts text fault
+RefusesDerived text fault = RefusesMultibase derived_header RefusesDerivedParts text fault
 
 -- what the text is as a base value, and as a derived value: the value, or refused
 abbrev pub ReadsBase : List ℕ → Result BaseValue ValueFault → Type 0

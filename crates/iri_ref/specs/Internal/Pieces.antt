@@ -16,5 +16,5 @@ texts p = record {
 }
 
 -- the texts that a list borrows
-abbrev pub texts_of : List (Bor (List ℕ)) → List (List ℕ)
-texts_of parts = map (λ (s : Bor (List ℕ)). s.now) parts
+abbrev pub borrowed_texts : List (Bor (List ℕ)) → List (List ℕ)
+borrowed_texts parts = map (λ (s : Bor (List ℕ)). s.now) parts
