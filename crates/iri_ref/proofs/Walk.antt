@@ -6,7 +6,7 @@ use Rattle.std.proofs.lemmas.Bool.{ne_eqb, lt-ltb}
 use Rattle.std.proofs.lemmas.List.{length-map, take-map, map-append}
 use Rattle.std.specs.Str.{IsUtf8}
 use Rattle.std.proofs.lemmas.Str.{IsUtf8-drop, IsCharBoundary-after_ascii}
-use Rattle.iri_ref.specs.Internal.Pieces.{texts_of}
+use Rattle.iri_ref.specs.Internal.Pieces.{borrowed_texts}
 use Rattle.iri_ref.specs.Resolution.{with_end, enter, is_dot, is_dot_dot, path_of, segments, up}
 
 segments_at : (s later : List ℕ) → ((i : ℕ) → i < length s → get_or s i 0 ≢ 47) → segments (s ++ 47 ∷ later) ≡ s ∷ segments later
@@ -55,18 +55,18 @@ pub kept_end : (kept now : List (List ℕ)) (rest : List ℕ) (t : Bool) → ((i
 kept_end kept now rest t h n e = rw (segments_none rest h, n) (sym (with_end-last kept rest t (sym e)))
 
 -- one up, by `truncate`
-pub up_more : (xs : List (Bor (List ℕ))) (n : ℕ) → n ≡ length xs → 1 < n → texts_of (take (n - 1) xs) ≡ up (texts_of xs)
+pub up_more : (xs : List (Bor (List ℕ))) (n : ℕ) → n ≡ length xs → 1 < n → borrowed_texts (take (n - 1) xs) ≡ up (borrowed_texts xs)
 up_more xs n e more =
-    let same : length (texts_of xs) ≡ n = length-map xs (λ (s : Bor (List ℕ)). s.now) ∙ sym e in
+    let same : length (borrowed_texts xs) ≡ n = length-map xs (λ (s : Bor (List ℕ)). s.now) ∙ sym e in
     let test : ltb 1 n ≡ true = lt-ltb 1 n more in
     rw (same, test) (sym (take-map (λ (s : Bor (List ℕ)). s.now) (n - 1) xs))
 
-later_texts : (xs : List (Bor (List ℕ))) → flat_map (λ (y : Bor (List ℕ)). 47 ∷ y.now) xs ≡ flat_map (λ y. 47 ∷ y) (texts_of xs)
+later_texts : (xs : List (Bor (List ℕ))) → flat_map (λ (y : Bor (List ℕ)). 47 ∷ y.now) xs ≡ flat_map (λ y. 47 ∷ y) (borrowed_texts xs)
 later_texts [] = refl
 later_texts (x ∷ xs) = ap (λ t. 47 ∷ x.now ++ t) (later_texts xs)
 
 -- the pieces joined with slashes are the path of their texts
-pub path_of-texts : (xs : List (Bor (List ℕ))) → join_by (λ (y : Bor (List ℕ)). y.now) (47 ∷ []) xs ≡ path_of (texts_of xs)
+pub path_of-texts : (xs : List (Bor (List ℕ))) → join_by (λ (y : Bor (List ℕ)). y.now) (47 ∷ []) xs ≡ path_of (borrowed_texts xs)
 path_of-texts [] = refl
 path_of-texts (x ∷ xs) = ap (λ t. x.now ++ t) (later_texts xs)
 
@@ -88,11 +88,11 @@ later_text rest s later u e =
     rw same at (IsUtf8-drop rest (length s + 1) u (IsCharBoundary-after_ascii rest (length s) u inside low))
 
 -- the end of a path whose last segment is a dot or two
-pub end_dot : (kept : List (List ℕ)) (items last : List (Bor (List ℕ))) (x : Bor (List ℕ)) (rest : List ℕ) → ((i : ℕ) → i < length rest → get_or rest i 0 ≢ 47) → texts_of items ≡ enter kept rest → true ≡ (is_dot rest || is_dot_dot rest) → x.now ≡ [] → last ≡ items ++ x ∷ [] → texts_of last ≡ fold enter kept (with_end (segments rest))
+pub end_dot : (kept : List (List ℕ)) (items last : List (Bor (List ℕ))) (x : Bor (List ℕ)) (rest : List ℕ) → ((i : ℕ) → i < length rest → get_or rest i 0 ≢ 47) → borrowed_texts items ≡ enter kept rest → true ≡ (is_dot rest || is_dot_dot rest) → x.now ≡ [] → last ≡ items ++ x ∷ [] → borrowed_texts last ≡ fold enter kept (with_end (segments rest))
 end_dot kept items last x rest h n t e l =
-    let pushed : texts_of last ≡ texts_of items ++ [] ∷ [] = ap texts_of l ∙ (map-append (λ (s : Bor (List ℕ)). s.now) items (x ∷ []) ∙ ap (λ y. texts_of items ++ y ∷ []) e) in
-    pushed ∙ kept_end kept (texts_of items) rest true h n t
+    let pushed : borrowed_texts last ≡ borrowed_texts items ++ [] ∷ [] = ap borrowed_texts l ∙ (map-append (λ (s : Bor (List ℕ)). s.now) items (x ∷ []) ∙ ap (λ y. borrowed_texts items ++ y ∷ []) e) in
+    pushed ∙ kept_end kept (borrowed_texts items) rest true h n t
 
 -- the end of a path with another last segment
-pub end_plain : (kept : List (List ℕ)) (items : List (Bor (List ℕ))) (rest : List ℕ) → ((i : ℕ) → i < length rest → get_or rest i 0 ≢ 47) → texts_of items ≡ enter kept rest → false ≡ (is_dot rest || is_dot_dot rest) → texts_of items ≡ fold enter kept (with_end (segments rest))
-end_plain kept items rest h n t = kept_end kept (texts_of items) rest false h n t
+pub end_plain : (kept : List (List ℕ)) (items : List (Bor (List ℕ))) (rest : List ℕ) → ((i : ℕ) → i < length rest → get_or rest i 0 ≢ 47) → borrowed_texts items ≡ enter kept rest → false ≡ (is_dot rest || is_dot_dot rest) → borrowed_texts items ≡ fold enter kept (with_end (segments rest))
+end_plain kept items rest h n t = kept_end kept (borrowed_texts items) rest false h n t

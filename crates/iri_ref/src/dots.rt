@@ -1,14 +1,14 @@
 //! Removal of dot segments. RFC 3986, section 5.2.4.
 ghost use Rattle.std.specs.Prelude.{◌≡◌, ◌||◌, [], string_bytes, IfOk, OnOk};
 ghost use Rattle.std.specs.List.{fold};
-ghost use Rattle.iri_ref.specs.Internal.Pieces.{texts_of};
+ghost use Rattle.iri_ref.specs.Internal.Pieces.{borrowed_texts};
 ghost use Rattle.iri_ref.specs.Resolution.{with_end, enter, is_dot, is_dot_dot, remove_dot_segments, segments, up};
 
 use base_types::Memory;
 use std::alloc::Global;
 
 fn go_up(kept: &mut Vec<&str>)
-    ensures { texts_of kept.new.items ≡ up (texts_of kept.old.items) }
+    ensures { borrowed_texts kept.new.items ≡ up (borrowed_texts kept.old.items) }
 {
     let count = kept.len();
     if count > 1 {
@@ -19,7 +19,8 @@ fn go_up(kept: &mut Vec<&str>)
 }
 
 fn keep<'a>(kept: &mut Vec<&'a str>, segment: &'a str) -> Result<(), Memory>
-    ensures { OnOk result (texts_of kept.new.items ≡ enter (texts_of kept.old.items) segment.now) }
+    ensures { OnOk result (borrowed_texts kept.new.items
+        ≡ enter (borrowed_texts kept.old.items) segment.now) }
 {
     if segment == "." {
         return Ok(());
@@ -41,7 +42,7 @@ fn is_dot_segment(segment: &str) -> bool
 /// The segments that are left when the dot segments have done what they say.
 fn kept_segments(alloc: Global, path: &str) -> Result<Vec<&str>, Memory>
     ensures { IfOk result (λ kept.
-        texts_of kept.items ≡ fold enter [] (with_end (segments path.now))) }
+        borrowed_texts kept.items ≡ fold enter [] (with_end (segments path.now))) }
 {
     let mut kept = Vec::new(alloc);
     let mut rest = path;
