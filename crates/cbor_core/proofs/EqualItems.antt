@@ -1,11 +1,11 @@
 -- Items that are the same numbers are the same.
-use Rattle.std.proofs.Common.{◌≡◌, ℕ, Bool, false, eqb, List, [], ◌∷◌, ◌++◌, length, take, drop, refl, sym, ap, ◌∙◌, append_assoc, arith}
+use Rattle.std.proofs.Common.{◌≡◌, ℕ, Bool, false, eqb, List, [], ◌∷◌, ◌++◌, length, refl, sym, ap, ◌∙◌, append_assoc, arith}
 use Rattle.std.specs.Prelude.{◌↔◌, IsTrue}
 use Rattle.std.specs.Bool.{one_answer}
 use Rattle.std.specs.List.{flat_map, AllByRecursion}
 use Rattle.std.specs.Cmp.Lexicographic.{bytes_decides}
 use Rattle.std.proofs.lemmas.Bool.{eq-eqb, false≢true}
-use Rattle.std.proofs.lemmas.List.{take_at, drop_at, length-map}
+use Rattle.std.proofs.lemmas.List.{length-map}
 use Rattle.std.proofs.lemmas.List.Folds.{flat_map-map}
 use Rattle.cbor_core.specs.declared.item.Item.{Item, out-Item, fold-roll-Item}
 use Rattle.cbor_core.specs.declared.item.Item.TheOpen.{Item-F}
@@ -49,8 +49,6 @@ unlike i j k l a b x y ne p q h =
     let s : k ∷ (a ++ x) ≡ l ∷ (b ++ y) = as_seen i j (k ∷ a) (l ∷ b) x y p q h in
     let same : k ≡ l = cc in
     absurd (false≢true (sym ne ∙ eq-eqb k l same))
-
-)
 
 items_front : (is js : List Item) (x y : List ℕ) → AllByRecursion Front is → length is ≡ length js → flat_map numbers_of is ++ x ≡ flat_map numbers_of js ++ y → (is ≡ js) × (x ≡ y)
 items_front [] [] x y e l h = (refl, h)

@@ -16,7 +16,7 @@ use Rattle.json_tree.specs.declared.tree.Member.{Member}
 use Rattle.json_tree.specs.declared.place.Step.{Step}
 use Rattle.json_tree.specs.declared.place.Step.TheVariants.{Key, At}
 use Rattle.json_tree.specs.Trees.{tree_of, elements_of, entries_of, element, new_member, whole_or_version, greatest, levels_of, nesting_of, nesting_limit, numbered, renumbered}
-use Rattle.json_tree.specs.Places.{below, or_else, misplaced, is_placed, is_version_key}
+use Rattle.json_tree.specs.Places.{misplaced, is_placed, is_version_key}
 use Rattle.json_tree.specs.Internal.Misplaced.{first_in_items, first_in_members}
 use Rattle.json_tree.specs.WellFormed.{IsWellFormed}
 use Rattle.json_tree.specs.Prints.{data_of, members_data, json_of}
