@@ -30,21 +30,23 @@ pub(crate) fn statements<S: Source>(alloc: Global, source: &mut S) -> Reply
     ensures { AnswersRequest StatementsAnswers (S.means source.old) (S.means source.new) result }
 {
     match request(alloc, source) {
-        Ok(request) => statements_of(alloc, &request),
+        Ok(request) => statements_of(alloc, request),
         Err(reply) => reply,
     }
 }
 
 /// The statements of the request's document.
-fn statements_of(alloc: Global, request: &Tree) -> Reply
-    requires { is_lawful request.now ≡ true }
-    ensures { IsReply (StatementsAnswers request.now) result }
+fn statements_of(alloc: Global, request: Tree) -> Reply
+    requires { is_lawful request ≡ true }
+    ensures { IsReply (StatementsAnswers request) result }
 {
-    let quads = match ld_rdf::flat(alloc, request) {
+    let quads = match ld_rdf::flat(alloc, &request) {
         Ok(quads) => quads,
         Err(FlatFault::NotBuilt) => return Reply::NotBuilt,
         Err(FlatFault::Memory) => return Reply::Memory,
     };
+    // The request makes room for the text.
+    drop(request);
     match nquads::text_of(alloc, &quads, &TextLabels::new(alloc)) {
         Ok(text) => Reply::Statements(Sequence::from_vec(text)),
         Err(Memory) => Reply::Memory,
