@@ -10,6 +10,7 @@ use base_types::{Memory, Text};
 use digest_mac::sha256_hex;
 use nquads::{BlankHash, TextQuad, TextQuads};
 use std::alloc::Global;
+use std::test::Fail;
 
 /// Subject, predicate, object.
 pub(crate) type Row = (&'static str, &'static str, &'static str);
