@@ -192,8 +192,8 @@ pub look_removed : (t : Tree) (key : List ℕ) → look (at key) (without key t)
 look_removed t key = look_at (without key t) key ∙ ap (option_and_then (value_of key)) (members_of-with_members (without_key key) t) ∙ through_removed key (members_of t)
 
 -- to take out what is not there changes nothing
-pub without_absent : (key : List ℕ) (t : Tree) → look (at key) t ≡ None → without key t ≡ t
-without_absent key t none = by_level (out-Tree t) refl
+pub without_none : (key : List ℕ) (t : Tree) → look (at key) t ≡ None → without key t ≡ t
+without_none key t none = by_level (out-Tree t) refl
   where
     by_level : (x : Tree-F Tree) → out-Tree t ≡ x → with_members_in (without_key key) t x ≡ t
     by_level Tree-F.Null e = refl

@@ -21,7 +21,7 @@ use Rattle.vc_cli.specs.declared.tasks.VerifyTask.{VerifyTask}
 use Rattle.vc_cli.specs.Requests.{HasShape, IsFlatIssue, IsFlatVerify, IsIssue, IsKeyTable, IsVerify, IssueParts, VerifyParts, at, issue_object, proof_name, value_name, whole_document}
 use Rattle.vc_cli.specs.Internal.Tasks.{IsVerifyTask}
 use Rattle.vc_cli.specs.Internal.Parts.{IsIssueRead, five_in, five_of, issue_names, lacks, method_in, proof_parts, text_under, three_in, three_of}
-use Rattle.vc_cli.proofs.Looks.{SameBeside, form_from, form_of, look_removed, look_without, method_from, none_from, shape_from, text_under-from, text_under-Some, without_absent}
+use Rattle.vc_cli.proofs.Looks.{SameBeside, form_from, form_of, look_removed, look_without, method_from, none_from, shape_from, text_under-from, text_under-Some, without_none}
 use Rattle.base_types.proofs.Lists.{same_some}
 use Rattle.base_types.proofs.Orders.{bytes_eq-true}
 
@@ -180,7 +180,7 @@ module _ (r : Tree) where
     pub no_document : (IsFlat (statements_request c (without proof_name d)) → ⊥) → IsFlatIssue r → ⊥
     no_document never f =
         let p = f.parts in
-        let whole : without proof_name p.document ≡ p.document = without_absent proof_name p.document f.are.no_proof in
+        let whole : without proof_name p.document ≡ p.document = without_none proof_name p.document f.are.no_proof in
         let flat : IsFlat (statements_request p.contexts (without proof_name p.document)) = subst (λ (t : Tree). IsFlat (statements_request p.contexts t)) (sym whole) f.are.document in
         never (subst (λ (t : Five). IsFlat (statements_request t.0 (without proof_name t.1))) (same_five p f.are) flat)
 
@@ -188,7 +188,7 @@ module _ (r : Tree) where
     no_options name method named never f =
         let p = f.parts in
         let pair : two_texts p.name p.method ≡ two_texts name method = same_some (issue_names d o) (two_texts p.name p.method) (two_texts name method) (same_names p f.are) named in
-        let whole : without value_name p.options ≡ p.options = without_absent value_name p.options f.are.shape.no_value in
+        let whole : without value_name p.options ≡ p.options = without_none value_name p.options f.are.shape.no_value in
         let flat : IsFlat (statements_request p.contexts (with_context p.name (without value_name p.options))) = subst (λ (t : Tree). IsFlat (statements_request p.contexts (with_context p.name t))) (sym whole) f.are.options in
         let here : IsFlat (statements_request c (with_context p.name (without value_name o))) = subst (λ (t : Five). IsFlat (statements_request t.0 (with_context p.name (without value_name t.4)))) (same_five p f.are) flat in
         never (subst (λ (n : List ℕ × List ℕ). IsFlat (statements_request c (with_context n.0 (without value_name o)))) pair here)
@@ -209,8 +209,8 @@ module _ (r : Tree) where
         let method_here : inner.0 ≡ method = ap (λ (n : List ℕ × List ℕ). n.1) inner.2 in
         let no_proof = none_from (look (at proof_name) d) absent.0 in
         let no_value = none_from (look (at value_name) o) absent.1 in
-        let d_whole : without proof_name d ≡ d = without_absent proof_name d no_proof in
-        let o_whole : without value_name o ≡ o = without_absent value_name o no_value in
+        let d_whole : without proof_name d ≡ d = without_none proof_name d no_proof in
+        let o_whole : without value_name o ≡ o = without_none value_name o no_value in
         let same : SameBeside value_name o o = λ key e. refl in
         let shape : HasShape o method = shape_from o o method same (form_of o method (inner.1 ∙ ap Some method_here)) no_value in
         let parts : IssueParts = record { contexts = c; document = d; keys = k; options = o; name = name; method = method; table = t.keys.entries } in
