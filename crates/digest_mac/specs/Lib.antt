@@ -1,1 +1,3 @@
 pub mod Digests
+pub mod Arrays
+pub mod Internal
