@@ -1,6 +1,6 @@
 //! The statements of flat documents (JSON-LD 1.1 API, 8.1).
 
-ghost use Rattle.std.specs.Prelude.{◌≡◌, true, List, map, option_map, IfOk, IsErrOf};
+ghost use Rattle.std.specs.Prelude.{◌≡◌, [], true, List, map, option_map, IfOk, IsErrOf};
 ghost use Rattle.json_tree.specs.Trees.{is_lawful, AreLawful};
 ghost use Rattle.nquads.specs.Terms.{Statement, IsStatement};
 ghost use Rattle.nquads.specs.Spelling.{text_quad};
@@ -11,7 +11,7 @@ ghost use Rattle.ld_rdf.specs.Internal.Outcomes.{Builds, BuildsItems};
 use crate::fault::FlatFault;
 use crate::parts::{are_definitions, member_text, supplied_context, text_beside, two_members};
 use crate::plain::{has_noncharacter, is_plain_iri};
-use base_types::Text;
+use base_types::{Memory, Text};
 use json_tree::{Member, Tree};
 use nquads::{TextQuad, TextQuads, iri, literal};
 use std::alloc::Global;
@@ -57,6 +57,13 @@ fn is_left_out(besides: &str, key: &str) -> bool
     key == besides || key == "@id" || key == "@context"
 }
 
+/// No statements yet, with room for so many.
+fn room_for(alloc: Global, statements: usize) -> Result<Vec<TextQuad>, Memory>
+    ensures { IfOk result (λ quads. quads.items ≡ []) }
+{
+    Ok(Vec::with_capacity(alloc, statements)?)
+}
+
 /// The statements of the members that are not left out, in their order.
 #[tactic(auto, using(crate::proofs::LoopTurns::turns))]
 fn properties(
@@ -71,7 +78,7 @@ fn properties(
         (option_map (map text_quad) (statements_beside besides.now terms.now id.now members.now))
         result }
 {
-    let mut quads = Vec::new(alloc);
+    let mut quads = room_for(alloc, members.len())?;
     for member in members {
         if !is_left_out(besides, member.key.as_str()) {
             let quad = property(alloc, terms, id, member)?;

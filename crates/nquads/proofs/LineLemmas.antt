@@ -15,7 +15,7 @@ use Rattle.base_types.proofs.Lists.{SameElements-map}
 use Rattle.base_types.proofs.Rising.{rising-dedup, rising-free}
 use Rattle.nquads.specs.Terms.{Term, iri, literal, blank, Statement}
 use Rattle.nquads.specs.Spelling.{spelling, blank_text, text_quad}
-use Rattle.nquads.specs.Lines.{term_text, graph_text, line, canonical_lines}
+use Rattle.nquads.specs.Lines.{term_text, graph_text, line, line_text, canonical_lines}
 use Rattle.nquads.specs.Texts.{part_text, graph_part_text, text_line}
 use Rattle.nquads.specs.declared.quads.TextQuad.{TextQuad}
 
@@ -59,3 +59,7 @@ concat-more lines i l in' is = ap concat (take_more lines i l in' ∙ ap (λ m. 
 -- a line, put together piece by piece
 pub assembled : (label : List ℕ → List ℕ) (quad : TextQuad) (n p a b c d e f g h : List ℕ) → n ≡ [] → a ≡ n ++ part_text label quad.subject → b ≡ a ++ codes " " → p ≡ quad.predicate → c ≡ b ++ p → d ≡ c ++ codes " " → e ≡ d ++ part_text label quad.object → f ≡ e ++ codes " " → g ≡ f ++ graph_part_text label quad.graph → h ≡ g ++ codes ".\n" → h ≡ text_line label quad
 assembled label quad n p a b c d e f g h en ea eb ep ec ed ee ef eg eh = rw (eh, eg, ef, ee, ed, ec, ep, eb, ea, en) (simp append_assoc)
+
+-- the same, where each part comes with the space behind it
+pub assembled-parts : (s p o g n s' p' o' g' a b c d e h : List ℕ) → n ≡ [] → a ≡ n ++ s' → s' ≡ s ++ codes " " → b ≡ a ++ p' → p' ≡ p → c ≡ b ++ codes " " → d ≡ c ++ o' → o' ≡ o ++ codes " " → e ≡ d ++ g' → g' ≡ g → h ≡ e ++ codes ".\n" → h ≡ line_text s p o g
+assembled-parts s p o g n s' p' o' g' a b c d e h en ea es eb ep ec ed eo ee eg eh = rw (eh, ee, eg, ed, eo, ec, eb, ep, ea, es, en) (simp append_assoc)

@@ -4,3 +4,8 @@ pub mod Spelling
 pub mod Lines
 pub mod Texts
 pub mod FirstDegree
+pub mod Stored
+pub mod Escapes
+pub mod Reading
+pub mod Faults
+pub mod Internal

@@ -1,6 +1,6 @@
 //! Laws of the definitions: each is the contract of a function that does nothing.
 
-ghost use Rattle.base_types.specs.Sets.{SameElements};
+ghost use Rattle.base_types.specs.Sets.{AllDiffer, SameElements};
 ghost use Rattle.nquads.specs.FirstDegree.{first_degree_hash};
 ghost use Rattle.nquads.specs.Lines.{
   HasLabels,
@@ -11,8 +11,17 @@ ghost use Rattle.nquads.specs.Lines.{
   with_labels,
   line,
 };
+ghost use Rattle.nquads.specs.Reading.{IsReadable, Says, SaysDataset};
 ghost use Rattle.nquads.specs.Renaming.{IsOneToOne, Same, image, rename};
 ghost use Rattle.nquads.specs.Spelling.{blank_text, escape, text_quad, spelling};
+ghost use Rattle.nquads.specs.Stored.{
+  Adds,
+  AreLabelsKnown,
+  find_number,
+  IsKnown,
+  labels_by_text,
+  quad_texts,
+};
 ghost use Rattle.nquads.specs.Terms.{
   Blank,
   BlankKind,
@@ -33,8 +42,14 @@ ghost use Rattle.nquads.specs.Terms.{
   rdf_lang_string,
   xsd_string,
 };
+ghost use Rattle.nquads.specs.Texts.{find_label};
+ghost use Rattle.nquads.specs.declared.numbers.Label.{Label};
 ghost use Rattle.std.specs.List.{concat, flat_map};
-ghost use Rattle.std.specs.Prelude.{All, Contains, List, map, [], ◌∷◌, ◌++◌, ◌≡◌, ℕ, codes, Option, Some, None};
+ghost use Rattle.std.specs.Str.{IsUtf8};
+ghost use Rattle.std.specs.Prelude.{All, Contains, List, length, map, [], ◌∷◌, ◌++◌, ◌≡◌, ◌<◌, ℕ, codes, Option, Some, None};
+ghost use Rattle.term_store.specs.Store.{Grows, text_at};
+ghost use Rattle.term_store.specs.declared.statements.Quad.{Quad};
+ghost use Rattle.term_store.specs.declared.store.TermId.{TermId};
 
 /// A text is the spelling of one term at most, so texts are compared in place of terms.
 pub fn spelling_has_one_reading()
@@ -131,6 +146,77 @@ pub fn same_is_a_map_one_to_one()
     ensures from_map { (f : Blank → Blank) (q r : List Statement) → IsOneToOne f q
         → SameElements (map (rename f) q) r → Same q r }
     ensures to_map { (q r : List Statement) (s : Same q r) → IsOneToOne (image s.pairs) q }
+{}
+
+/// As the store grows, a statement of its numbers keeps its four texts and stays one of its numbers.
+pub fn a_number_stands_for_its_text()
+    ensures { (old new : List (List ℕ)) (quad : Quad) → Grows old new → IsKnown old quad
+        → (quad_texts new quad ≡ quad_texts old quad) × IsKnown new quad }
+{}
+
+/// Two statements of the numbers of one store with the same four texts are one, so repeats are
+/// found by comparing numbers.
+pub fn four_texts_have_one_statement_of_numbers()
+    ensures { (texts : List (List ℕ)) → AllDiffer texts → (a b : Quad)
+        → IsKnown texts a → IsKnown texts b → quad_texts texts a ≡ quad_texts texts b → a ≡ b }
+{}
+
+/// The label of a number is the label of its text.
+pub fn a_number_has_the_label_of_its_text()
+    ensures { (texts : List (List ℕ)) → AllDiffer texts → (labels : List Label) (id : TermId)
+        → AreLabelsKnown texts labels → id.index < length texts
+        → find_label (labels_by_text texts labels) (text_at texts id)
+        ≡ find_number labels id.index }
+{}
+
+/// A statement that is put last, where the store only grew, adds its four texts.
+pub fn a_statement_that_is_added()
+    ensures { (before after : List (List ℕ)) (old : List Quad) (quad : Quad)
+        → Grows before after → All (IsKnown before) old → IsKnown after quad
+        → Adds before after old (old ++ quad ∷ []) (quad_texts after quad ∷ []) }
+{}
+
+/// A line says one statement at most, and none where it says nothing.
+pub fn a_line_says_one_statement()
+    ensures { (line : List ℕ) (x y : Option Statement) → Says line x → Says line y → x ≡ y }
+{}
+
+/// A text says one dataset at most.
+pub fn a_text_says_one_dataset()
+    ensures { (bytes : List ℕ) (p q : List Statement) → SaysDataset bytes p → SaysDataset bytes q
+        → SameElements p q }
+{}
+
+/// A canonical text of readable statements, in UTF-8, says the dataset whose text it is, with each
+/// blank node named by its label.
+pub fn what_is_written_reads_back()
+    ensures { (f : Blank → List ℕ) (q : List Statement) → All IsReadable (map (with_labels f) q)
+        → IsUtf8 (canonical_text f q)
+        → SaysDataset (canonical_text f q) (map (with_labels f) q) }
+{}
+
+/// Worked rows: lines that say a statement or nothing, and texts that are no line. RDF 1.1 N-Quads, 3
+/// and 4.
+pub fn worked_readings()
+    ensures literal { Says (codes "_:a <e:p> \"\\u00E9\"@fr.") (Some (record {
+      subject = blank (record { kind = by_label; name = codes "a" });
+      predicate = codes "e:p";
+      object = literal (195 ∷ 169 ∷ []) rdf_lang_string (Some (codes "fr"));
+      graph = None;
+    })) }
+    ensures graph { Says (codes "\t<e:s> <e:p>\t_:a.b <e:g>. # c") (Some (record {
+      subject = iri (codes "e:s");
+      predicate = codes "e:p";
+      object = blank (record { kind = by_label; name = codes "a.b" });
+      graph = Some (iri (codes "e:g"));
+    })) }
+    ensures comment { Says (codes " # <e:s> <e:p> <e:o> .") None }
+    ensures no_dot { (x : Option Statement) → Says (codes "<e:s> <e:p> <e:o>") x → ⊥ }
+    ensures no_gap { (x : Option Statement) → Says (codes "<e:s><e:p> <e:o> .") x → ⊥ }
+    ensures relative { (x : Option Statement) → Says (codes "<s> <e:p> <e:o> .") x → ⊥ }
+    ensures subject { (x : Option Statement) → Says (codes "\"s\" <e:p> <e:o> .") x → ⊥ }
+    ensures surrogate { (x : Option Statement) → Says (codes "_:a <e:p> \"\\uD800\" .") x → ⊥ }
+    ensures two_dots { (x : Option Statement) → Says (codes "_:a <e:p> _:b..") x → ⊥ }
 {}
 
 /// Worked rows: the escapes, with the first and the last byte of each range of them, and literals.

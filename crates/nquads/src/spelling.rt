@@ -9,7 +9,7 @@ use base_types::{Memory, Text};
 use std::alloc::Global;
 
 /// The datatype of a literal that is written without one.
-const XSD_STRING: &str = "http://www.w3.org/2001/XMLSchema#string";
+pub(crate) const XSD_STRING: &str = "http://www.w3.org/2001/XMLSchema#string";
 
 /// The empty text, with room for so many bytes.
 pub(crate) fn text_with_room(alloc: Global, bytes: usize) -> Result<Text, Memory>

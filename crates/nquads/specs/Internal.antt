@@ -1,0 +1,5 @@
+pub mod Parts
+pub mod Meaning
+pub mod Parsing
+pub mod Lines
+pub mod Storing
