@@ -32,7 +32,7 @@ use Rattle.rdfc_ndegree.proofs.RunCarry.{results_tie-permuted}
 use Rattle.rdfc_canon.specs.Internal.Numbering.{HashesAlone, IsPathOf, AnswersHashes, AnswersRound, HashesOver, HashesDeep, issue_paths, neighbours_tie}
 use Rattle.rdfc_canon.proofs.Namings.{name_each-take}
 use Rattle.rdfc_canon.proofs.Sorting.{Up-from_sorted, order-from_Up, neighbours-results}
-use Rattle.rdfc_ndegree.proofs.Progress.{spending_of}
+use Rattle.rdfc_ndegree.specs.Internal.Progress.{spending_of}
 
 -- In the calls of a group's members, the members `rest` are left, with these paths so far.
 pub record Hashing (v : Nodes ℕ) (c members : List ℕ) (paths : List NodePath) (rest : List ℕ) (old spent limit : ℕ) : Type 0 where

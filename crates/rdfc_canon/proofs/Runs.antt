@@ -24,7 +24,7 @@ use Rattle.rdfc_canon.specs.Internal.Numbering.{AnswersRound, AnswersNumbers, Ha
 use Rattle.rdfc_ndegree.specs.Internal.Issuing.{issue_numbers}
 use Rattle.rdfc_canon.proofs.Namings.{alone-named}
 use Rattle.base_types.proofs.Lists.{drop-next}
-use Rattle.rdfc_ndegree.proofs.Progress.{spending_of}
+use Rattle.rdfc_ndegree.specs.Internal.Progress.{spending_of}
 
 -- a result with earlier groups in front: their tie, their work and their depth
 abbrev pub run_after : {B : Type 0} → Bool → ℕ → ℕ → RunOutcome B → RunOutcome B

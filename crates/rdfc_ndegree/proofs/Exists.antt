@@ -110,6 +110,40 @@ module _ {B : Type 0} (v : Nodes B) where
   pub walk-less : AreNodes v → (c i p : List B) → AreListed v p → (recursion_list v c i p ≡ []) ⊎ (lack v c (issuer_copy v c i p) v.all < lack v c i v.all)
   walk-less laws c i p h = walks laws c i p v.all h
 
+  part-one : (a b : Bool) → part a b ≤ 1
+  unfolding part
+  part-one true b = omega arith
+  part-one false true = omega arith
+  part-one false false = omega arith
+
+  lack-length : (c i us : List B) → lack v c i us ≤ length us
+  lack-length c i [] = omega arith
+  lack-length c i (u ∷ us) =
+      let a = lack-cons c i u us in
+      let first : part (has v c u) (has v i u) ≤ 1 = part-one (has v c u) (has v i u) in
+      let rest : lack v c i us ≤ length us = lack-length c i us in
+      omega arith
+
+  walk-counts : AreNodes v → (c i p us : List B) → ((m : B) → Contains p m → Contains us m) → length (recursion_list v c i p) + lack v c (issuer_copy v c i p) us ≤ lack v c i us
+  walk-counts laws c i [] us h = omega arith
+  walk-counts laws c i (m ∷ ms) us h = go (has v c m || has v i m) refl (walk-counts laws c i ms us (λ x k. h x (Contains-there m ms x k))) (walk-counts laws c (issue_temporary v c i m) ms us (λ x k. h x (Contains-there m ms x k)))
+    where
+      go : (b : Bool) → (has v c m || has v i m) ≡ b → length (recursion_list v c i ms) + lack v c (issuer_copy v c i ms) us ≤ lack v c i us
+          → length (recursion_list v c (issue_temporary v c i m) ms) + lack v c (issuer_copy v c (issue_temporary v c i m) ms) us ≤ lack v c (issue_temporary v c i m) us
+          → length (cond b (recursion_list v c i ms) (m ∷ recursion_list v c (issue_temporary v c i m) ms)) + lack v c (issuer_copy v c (issue_temporary v c i m) ms) us ≤ lack v c i us
+      go true e known new = subst (λ j. length (recursion_list v c i ms) + lack v c (issuer_copy v c j ms) us ≤ lack v c i us) (sym (named-known c i m e)) known
+      go false e known new =
+          let less : lack v c (issue_temporary v c i m) us < lack v c i us =
+          lack-less c i (issue_temporary v c i m) us m (Grows-named v c i m) (h m (Contains-here m ms)) e (named-has laws c i m (or_parts (has v c m) (has v i m) e).0) in
+          omega arith
+
+  -- an arrangement names each node at most once
+  pub walk-few : AreNodes v → (c i p : List B) → AreListed v p → length (recursion_list v c i p) ≤ length v.all
+  walk-few laws c i p h =
+      let sum : length (recursion_list v c i p) + lack v c (issuer_copy v c i p) v.all ≤ lack v c i v.all = walk-counts laws c i p v.all h in
+      let most : lack v c i v.all ≤ length v.all = lack-length c i v.all in
+      omega arith
+
   pub groups-listed : AreNodes v → (c i : List B) (n : B) (g : Group B) (m : B) → Contains v.all n → Contains (related_groups v c i n) g → Contains g.members m → Contains v.all m
   groups-listed laws c i n g m listed k l =
       let h = grouped-member (map (with_related_hash v c i) (v.related n)) g m k l in

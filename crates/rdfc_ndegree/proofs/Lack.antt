@@ -1,7 +1,8 @@
 -- How far the naming of nodes has come: what bounds the depth of n-degree calls. RDF Canonicalization, 4.8.3, step 5.4.
-use Rattle.std.specs.Prelude.{◌≡◌, ℕ, ◌+◌, List, [], ◌∷◌, true, ◌||◌, Contains, if◌then◌else◌}
+use Rattle.std.specs.Prelude.{◌≡◌, ℕ, ◌+◌, List, [], ◌∷◌, true, ◌||◌, if◌then◌else◌}
 use Rattle.rdfc_ndegree.specs.Nodes.{Nodes}
 use Rattle.rdfc_ndegree.specs.Issuers.{has}
+pub use Rattle.rdfc_ndegree.specs.Internal.Nodes.{AreListed}
 
 -- how many of the nodes us neither the canonical issuer c nor the issuer i has named
 abbrev pub lack : {B : Type 0} → Nodes B → List B → List B → List B → ℕ
@@ -11,7 +12,3 @@ lack v c i (u ∷ us) = (if has v c u || has v i u then 0 else 1) + lack v c i u
 -- the issuer j has named each node that i has named
 abbrev pub Grows : {B : Type 0} → Nodes B → List B → List B → Type 0
 Grows v i j = (x : _) → has v i x ≡ true → has v j x ≡ true
-
--- each of the nodes ms is a node of the dataset
-abbrev pub AreListed : {B : Type 0} → Nodes B → List B → Type 0
-AreListed v ms = (m : _) → Contains ms m → Contains v.all m

@@ -2,7 +2,6 @@ pub mod Membership
 pub mod Branches
 pub mod Branching
 pub mod Lack
-pub mod Progress
 pub mod Grow
 pub mod Exists
 pub mod Labels
@@ -32,3 +31,7 @@ pub mod ProgressLaws
 pub mod Rows
 pub mod Loops
 pub mod RequestLemmas
+pub mod Stacks
+pub mod Replies
+pub mod Weighing
+pub mod Turns

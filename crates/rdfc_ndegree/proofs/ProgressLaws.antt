@@ -7,13 +7,12 @@ use Rattle.std.proofs.lemmas.List.Elements.{Contains-append_right}
 use Rattle.base_types.specs.Order.{is_upto}
 use Rattle.base_types.proofs.Lists.{Contains-here, Contains-there, Contains-nil}
 use Rattle.rdfc_ndegree.specs.Nodes.{Nodes}
-use Rattle.rdfc_ndegree.specs.Internal.Nodes.{AreNodes}
+use Rattle.rdfc_ndegree.specs.Internal.Nodes.{AreNodes, AreListed, AreGroupsListed}
 use Rattle.rdfc_ndegree.specs.Groups.{Group, related_groups}
 use Rattle.rdfc_ndegree.specs.NDegree.{Outcome, Trail, Choice, issuer_copy, first_path, recursion_list, path_part, trail_end, trail_more, AreArrangements, choice_of, meets_tie, InGroups, outcome_end, outcome_more, one_deeper, IsNDegree}
-use Rattle.rdfc_ndegree.proofs.Lack.{AreListed}
 use Rattle.rdfc_ndegree.specs.Answers.{answer, AnswersCall, CallOver, CallDeep}
 use Rattle.rdfc_ndegree.specs.Internal.Evaluations.{trail_answer, choice_answer, IsTrail, IsGroupChoice, AnswersTrail, TrailOver, TrailDeep, AnswersChoice, ChoiceOver, ChoiceDeep, IsFaultOf, IsAmong, IsBestOf}
-use Rattle.rdfc_ndegree.proofs.Progress.{spending_of, trail_after, Walking, Choosing, outcome_after, Grouping}
+use Rattle.rdfc_ndegree.specs.Internal.Progress.{spending_of, trail_after, Walking, best_so_far, Choosing, data_to_hash, outcome_after, Grouping}
 use Rattle.rdfc_ndegree.specs.declared.limits.Limits.{Limits}
 use Rattle.rdfc_ndegree.specs.declared.limits.CanonFault.{CanonFault}
 use Rattle.rdfc_ndegree.specs.declared.limits.CanonFault.TheVariants as fault
@@ -65,13 +64,13 @@ module _ {B : Type 0} where
       λ i. record { hash = o.hash; issuer = o.issuer; tie = t i; work = w i; depth = d i }
 
 module _ {B : Type 0} (v : Nodes B) (c : List B) where
-  pub walking-start : (i p : List B) (old depth limit : ℕ) → depth ≤ limit → Walking v c i p (first_path v c i p) (issuer_copy v c i p) [] (recursion_list v c i p) old old depth limit
+  pub walking-start : (i p : List B) (old depth limit : ℕ) → depth ≤ limit → Walking v c i p (trail_answer (first_path v c i p) (issuer_copy v c i p) []) (recursion_list v c i p) (spending_of old old depth limit)
   walking-start i p old depth limit fits =
       record { work = 0; deep = 0; goes_on = λ u n. subst (IsTrail v c i p) (after-none u) n; spent_is = omega arith; within = omega arith }
 
   walking-step : {i p : List B} {path : List ℕ} {now : List B} {ties : List (List ℕ)} {m : B} {ms : List B} {old spent depth limit : ℕ}
-      → Walking v c i p path now ties (m ∷ ms) old spent depth limit → (o : Outcome B) → IsNDegree v c m now o → (new : ℕ) → new ≡ spent + o.work → depth + 1 + o.depth ≤ limit + 1
-      → Walking v c i p (path ++ path_part v now m o.hash) o.issuer (if o.tie then ties ++ path ∷ [] else ties) ms old new depth limit
+      → Walking v c i p (trail_answer path now ties) (m ∷ ms) (spending_of old spent depth limit) → (o : Outcome B) → IsNDegree v c m now o → (new : ℕ) → new ≡ spent + o.work → depth + 1 + o.depth ≤ limit + 1
+      → Walking v c i p (trail_answer (path ++ path_part v now m o.hash) o.issuer (if o.tie then ties ++ path ∷ [] else ties)) ms (spending_of old new depth limit)
   walking-step {i = i} {p = p} {path = path} {ties = ties} w o call new is fits =
       let s = w.spent_is in
       let d = w.within in
@@ -84,12 +83,12 @@ module _ {B : Type 0} (v : Nodes B) (c : List B) where
       }
 
   pub walking-turn : {i p : List B} {path : List ℕ} {now : List B} {ties : List (List ℕ)} {m : B} {ms : List B} {old spent new depth limit : ℕ} {hash : List ℕ} {issuer : List B} {tie : Bool}
-      → Walking v c i p path now ties (m ∷ ms) old spent depth limit → AnswersCall v c m now (answer hash issuer tie) (spending_of spent new (depth + 1) limit)
-      → Walking v c i p (path ++ path_part v now m hash) issuer (if tie then ties ++ path ∷ [] else ties) ms old new depth limit
+      → Walking v c i p (trail_answer path now ties) (m ∷ ms) (spending_of old spent depth limit) → AnswersCall v c m now (answer hash issuer tie) (spending_of spent new (depth + 1) limit)
+      → Walking v c i p (trail_answer (path ++ path_part v now m hash) issuer (if tie then ties ++ path ∷ [] else ties)) ms (spending_of old new depth limit)
   walking-turn {new = new} w a = rw (a.hash_is, a.issuer_is, a.tie_is) (walking-step w a.outcome a.call new a.spent a.within)
 
   pub walking-end : {i p : List B} {path : List ℕ} {now : List B} {ties : List (List ℕ)} {old spent depth limit : ℕ}
-      → Walking v c i p path now ties [] old spent depth limit → AnswersTrail v c i p (trail_answer path now ties) (spending_of old spent depth limit)
+      → Walking v c i p (trail_answer path now ties) [] (spending_of old spent depth limit) → AnswersTrail v c i p (trail_answer path now ties) (spending_of old spent depth limit)
   walking-end {path = path} {now = now} {ties = ties} w =
       let s = w.spent_is in
       let d = w.within in
@@ -122,7 +121,7 @@ module _ {B : Type 0} {v : Nodes B} (laws : AreNodes v) (c : List B) where
       record { outcome = o.0; call = o.1; over = omega arith }
 
   walking-complete : {i p : List B} {path : List ℕ} {now : List B} {ties : List (List ℕ)} {m : B} {ms : List B} {old spent depth limit : ℕ}
-      → Walking v c i p path now ties (m ∷ ms) old spent depth limit → AreListed v ms → (o : Outcome B) → IsNDegree v c m now o
+      → Walking v c i p (trail_answer path now ties) (m ∷ ms) (spending_of old spent depth limit) → AreListed v ms → (o : Outcome B) → IsNDegree v c m now o
       → (t : Trail B) × IsTrail v c i p t × (spent + o.work ≤ old + t.work) × (o.depth ≤ t.depth)
   walking-complete {path = path} {now = now} {ties = ties} {m = m} {ms = ms} w listed o call =
       let rest = nested-exists laws c o.issuer (path ++ path_part v now m o.hash) ms listed in
@@ -134,20 +133,20 @@ module _ {B : Type 0} {v : Nodes B} (laws : AreNodes v) (c : List B) where
       )
 
   walking-over : {i p : List B} {path : List ℕ} {now : List B} {ties : List (List ℕ)} {m : B} {ms : List B} {old spent depth limit : ℕ}
-      → Walking v c i p path now ties (m ∷ ms) old spent depth limit → AreListed v ms → (n : ℕ) → CallOver v c m now spent n → TrailOver v c i p old n
+      → Walking v c i p (trail_answer path now ties) (m ∷ ms) (spending_of old spent depth limit) → AreListed v ms → (n : ℕ) → CallOver v c m now spent n → TrailOver v c i p old n
   walking-over w listed n h = let t = walking-complete w listed h.outcome h.call in let o = h.over in let a = t.2 in record { trail = t.0; evaluated = t.1; over = omega arith }
 
   walking-deep : {i p : List B} {path : List ℕ} {now : List B} {ties : List (List ℕ)} {m : B} {ms : List B} {old spent depth limit : ℕ}
-      → Walking v c i p path now ties (m ∷ ms) old spent depth limit → AreListed v ms → (n : ℕ) → CallDeep v c m now (depth + 1) n → TrailDeep v c i p depth n
+      → Walking v c i p (trail_answer path now ties) (m ∷ ms) (spending_of old spent depth limit) → AreListed v ms → (n : ℕ) → CallDeep v c m now (depth + 1) n → TrailDeep v c i p depth n
   walking-deep w listed n h = let t = walking-complete w listed h.outcome h.call in let o = h.over in let a = t.3 in record { trail = t.0; evaluated = t.1; over = omega arith }
 
   pub walking-fault : {i p : List B} {path : List ℕ} {now : List B} {ties : List (List ℕ)} {m : B} {ms : List B} {old spent depth limit : ℕ} {limits limits' : Limits}
-      → Walking v c i p path now ties (m ∷ ms) old spent depth limit → AreListed v ms → limits ≡ limits' → (e : CanonFault)
+      → Walking v c i p (trail_answer path now ties) (m ∷ ms) (spending_of old spent depth limit) → AreListed v ms → limits ≡ limits' → (e : CanonFault)
       → IsFaultOf limits (CallOver v c m now spent) (CallDeep v c m now (depth + 1)) e → IsFaultOf limits' (TrailOver v c i p old) (TrailDeep v c i p depth) e
   walking-fault w listed same e h = same_fault same (walking-over w listed) (walking-deep w listed) e h
 
   pub walking-blocked : {i p : List B} {path : List ℕ} {now : List B} {ties : List (List ℕ)} {m : B} {ms : List B} {old spent depth limit : ℕ}
-      → Walking v c i p path now ties (m ∷ ms) old spent depth limit → AreListed v (m ∷ ms) → (n : ℕ) → n ≤ depth → TrailDeep v c i p depth n
+      → Walking v c i p (trail_answer path now ties) (m ∷ ms) (spending_of old spent depth limit) → AreListed v (m ∷ ms) → (n : ℕ) → n ≤ depth → TrailDeep v c i p depth n
   walking-blocked {now = now} {m = m} {ms = ms} {depth = depth} w listed n full =
       walking-deep w (λ x k. listed x (Contains-there m ms x k)) n (call-blocked m now depth n (listed m (Contains-here m ms)) full)
 
@@ -155,15 +154,15 @@ module _ {B : Type 0} {v : Nodes B} (laws : AreNodes v) (c : List B) where
 
 module _ {B : Type 0} (v : Nodes B) (c : List B) where
   pub choosing-start : (i members : List B) (ps : List (List B)) {path : List ℕ} {issuer : List B} {sharing : ℕ} {ties : List (List ℕ)} (old depth limit : ℕ) → AreArrangements members ps → IsBestOf {B = B} [] path issuer sharing ties → depth ≤ limit
-      → Choosing v c i members ps path issuer sharing ties old old depth limit
+      → Choosing v c i members ps (best_so_far path issuer sharing ties) (spending_of old old depth limit)
   choosing-start i members ps old depth limit all best fits =
       record { done = []; trails = []; all = all; evaluated = tt; best = best; spent_is = omega arith; within = omega arith }
 
   pub choosing-turn : {i members p : List B} {rest : List (List B)} {path : List ℕ} {issuer : List B} {sharing : ℕ} {ties : List (List ℕ)} {old spent new depth limit : ℕ} {its_path : List ℕ} {its_issuer : List B} {its_ties : List (List ℕ)}
       (path' : List ℕ) (issuer' : List B) (sharing' : ℕ) (ties' : List (List ℕ))
-      → Choosing v c i members (p ∷ rest) path issuer sharing ties old spent depth limit → AnswersTrail v c i p (trail_answer its_path its_issuer its_ties) (spending_of (spent + 1) new depth limit)
+      → Choosing v c i members (p ∷ rest) (best_so_far path issuer sharing ties) (spending_of old spent depth limit) → AnswersTrail v c i p (trail_answer its_path its_issuer its_ties) (spending_of (spent + 1) new depth limit)
       → ((ts : List (Trail B)) (t : Trail B) → IsBestOf ts path issuer sharing ties → its_path ≡ t.path → its_issuer ≡ t.issuer → its_ties ≡ t.ties → IsBestOf (ts ++ t ∷ []) path' issuer' sharing' ties')
-      → Choosing v c i members rest path' issuer' sharing' ties' old new depth limit
+      → Choosing v c i members rest (best_so_far path' issuer' sharing' ties') (spending_of old new depth limit)
   choosing-turn {i = i} {members = members} {p = p} {rest = rest} path' issuer' sharing' ties' k a takes =
       let s = k.spent_is in
       let d = k.within in
@@ -182,7 +181,7 @@ module _ {B : Type 0} (v : Nodes B) (c : List B) where
       }
 
   pub choosing-end : {i members : List B} {path : List ℕ} {issuer : List B} {sharing : ℕ} {ties : List (List ℕ)} {old spent depth limit : ℕ} {tie : Bool}
-      → Choosing v c i members [] path issuer sharing ties old spent depth limit → tie ≡ (nat_lt 1 sharing || list_any (λ before. starts_with ◌==◌ path before) ties)
+      → Choosing v c i members [] (best_so_far path issuer sharing ties) (spending_of old spent depth limit) → tie ≡ (nat_lt 1 sharing || list_any (λ before. starts_with ◌==◌ path before) ties)
       → AnswersChoice v c i members (choice_answer path issuer tie) (spending_of old spent depth limit)
   choosing-end {i = i} {members = members} {path = path} {issuer = issuer} {sharing = sharing} {ties = ties} k e =
       let all : AreArrangements members k.done = subst (AreArrangements members) (append-nil k.done) k.all in
@@ -211,11 +210,11 @@ module _ {B : Type 0} (v : Nodes B) (c : List B) where
 
 module _ {B : Type 0} {v : Nodes B} (laws : AreNodes v) (c : List B) where
   -- the members of an arrangement are those of the group
-  listed-arrangement : (members p : List B) (done rest : List (List B)) → AreArrangements members (done ++ p ∷ rest) → AreListed v members → AreListed v p
+  pub listed-arrangement : (members p : List B) (done rest : List (List B)) → AreArrangements members (done ++ p ∷ rest) → AreListed v members → AreListed v p
   listed-arrangement members p done rest all listed m k = listed m (arrangement-member all p m (Contains-append_right done (p ∷ rest) p (Contains-here p rest)) k)
 
   choosing-complete : {i members p : List B} {rest : List (List B)} {path : List ℕ} {issuer : List B} {sharing : ℕ} {ties : List (List ℕ)} {old spent depth limit : ℕ}
-      → Choosing v c i members (p ∷ rest) path issuer sharing ties old spent depth limit → AreListed v members → (t : Trail B) → IsTrail v c i p t
+      → Choosing v c i members (p ∷ rest) (best_so_far path issuer sharing ties) (spending_of old spent depth limit) → AreListed v members → (t : Trail B) → IsTrail v c i p t
       → (x : Choice B) × IsGroupChoice v c i members x × (spent + 1 + t.work ≤ old + x.work) × (t.depth ≤ x.depth)
   choosing-complete {i = i} {members = members} {p = p} {rest = rest} k listed t evaluated =
       let us = trails-exist laws c i rest (λ q e m f. listed m (arrangement-member k.all q m (Contains-append_right k.done (p ∷ rest) q (Contains-there p rest q e)) f)) in
@@ -232,21 +231,21 @@ module _ {B : Type 0} {v : Nodes B} (laws : AreNodes v) (c : List B) where
       )
 
   choosing-over : {i members p : List B} {rest : List (List B)} {path : List ℕ} {issuer : List B} {sharing : ℕ} {ties : List (List ℕ)} {old spent depth limit : ℕ}
-      → Choosing v c i members (p ∷ rest) path issuer sharing ties old spent depth limit → AreListed v members → (n : ℕ) → TrailOver v c i p (spent + 1) n → ChoiceOver v c i members old n
+      → Choosing v c i members (p ∷ rest) (best_so_far path issuer sharing ties) (spending_of old spent depth limit) → AreListed v members → (n : ℕ) → TrailOver v c i p (spent + 1) n → ChoiceOver v c i members old n
   choosing-over k listed n h = let x = choosing-complete k listed h.trail h.evaluated in let o = h.over in let a = x.2 in record { choice = x.0; is_choice = x.1; over = omega arith }
 
   choosing-deep : {i members p : List B} {rest : List (List B)} {path : List ℕ} {issuer : List B} {sharing : ℕ} {ties : List (List ℕ)} {old spent depth limit : ℕ}
-      → Choosing v c i members (p ∷ rest) path issuer sharing ties old spent depth limit → AreListed v members → (n : ℕ) → TrailDeep v c i p depth n → ChoiceDeep v c i members depth n
+      → Choosing v c i members (p ∷ rest) (best_so_far path issuer sharing ties) (spending_of old spent depth limit) → AreListed v members → (n : ℕ) → TrailDeep v c i p depth n → ChoiceDeep v c i members depth n
   choosing-deep k listed n h = let x = choosing-complete k listed h.trail h.evaluated in let o = h.over in let a = x.3 in record { choice = x.0; is_choice = x.1; over = omega arith }
 
   pub choosing-fault : {i members p : List B} {rest : List (List B)} {path : List ℕ} {issuer : List B} {sharing : ℕ} {ties : List (List ℕ)} {old spent depth limit : ℕ} {limits limits' : Limits}
-      → Choosing v c i members (p ∷ rest) path issuer sharing ties old spent depth limit → AreListed v members → limits ≡ limits' → (e : CanonFault)
+      → Choosing v c i members (p ∷ rest) (best_so_far path issuer sharing ties) (spending_of old spent depth limit) → AreListed v members → limits ≡ limits' → (e : CanonFault)
       → IsFaultOf limits (TrailOver v c i p (spent + 1)) (TrailDeep v c i p depth) e → IsFaultOf limits' (ChoiceOver v c i members old) (ChoiceDeep v c i members depth) e
   choosing-fault k listed same e h = same_fault same (choosing-over k listed) (choosing-deep k listed) e h
 
   -- where no more arrangement may be begun
   pub choosing-full : {i members p : List B} {rest : List (List B)} {path : List ℕ} {issuer : List B} {sharing : ℕ} {ties : List (List ℕ)} {old spent depth limit : ℕ}
-      → Choosing v c i members (p ∷ rest) path issuer sharing ties old spent depth limit → AreListed v members → (n : ℕ) → n ≤ spent → ChoiceOver v c i members old n
+      → Choosing v c i members (p ∷ rest) (best_so_far path issuer sharing ties) (spending_of old spent depth limit) → AreListed v members → (n : ℕ) → n ≤ spent → ChoiceOver v c i members old n
   choosing-full {i = i} {members = members} {p = p} {rest = rest} k listed n full =
       let t = evaluates-exists laws c i p (listed-arrangement members p k.done rest k.all listed) in
       choosing-over k listed n record { trail = t.0; evaluated = t.1; over = omega arith }
@@ -254,13 +253,13 @@ module _ {B : Type 0} {v : Nodes B} (laws : AreNodes v) (c : List B) where
 -- ---- the groups of a call
 
 module _ {B : Type 0} (v : Nodes B) (c : List B) where
-  pub grouping-start : (n : B) (i : List B) (old depth limit : ℕ) → depth ≤ limit → Grouping v c n i [] i false (related_groups v c i n) old old depth limit
+  pub grouping-start : (n : B) (i : List B) (old depth limit : ℕ) → depth ≤ limit → Grouping v c n i (data_to_hash [] i false) (related_groups v c i n) (spending_of old old depth limit)
   grouping-start n i old depth limit fits =
       record { work = 0; deep = 0; goes_on = λ o g. subst (InGroups v (IsNDegree v c) c [] i (related_groups v c i n)) (joining-none o) g; spent_is = omega arith; within = omega arith }
 
   grouping-step : {n : B} {i : List B} {text : List ℕ} {now : List B} {tie : Bool} {g : Group B} {gs : List (Group B)} {old spent depth limit : ℕ}
-      → Grouping v c n i text now tie (g ∷ gs) old spent depth limit → (x : Choice B) → IsGroupChoice v c now g.members x → (new : ℕ) → new ≡ spent + x.work → depth + x.depth ≤ limit
-      → Grouping v c n i (text ++ (g.hash ++ x.path)) x.issuer (tie || x.tie) gs old new depth limit
+      → Grouping v c n i (data_to_hash text now tie) (g ∷ gs) (spending_of old spent depth limit) → (x : Choice B) → IsGroupChoice v c now g.members x → (new : ℕ) → new ≡ spent + x.work → depth + x.depth ≤ limit
+      → Grouping v c n i (data_to_hash (text ++ (g.hash ++ x.path)) x.issuer (tie || x.tie)) gs (spending_of old new depth limit)
   grouping-step {n = n} {i = i} {tie = tie} k x is_choice new is fits =
       let s = k.spent_is in
       let d = k.within in
@@ -273,12 +272,12 @@ module _ {B : Type 0} (v : Nodes B) (c : List B) where
       }
 
   pub grouping-turn : {n : B} {i : List B} {text : List ℕ} {now : List B} {tie : Bool} {g : Group B} {gs : List (Group B)} {old spent new depth limit : ℕ} {path : List ℕ} {issuer : List B} {tied : Bool}
-      → Grouping v c n i text now tie (g ∷ gs) old spent depth limit → AnswersChoice v c now g.members (choice_answer path issuer tied) (spending_of spent new depth limit)
-      → Grouping v c n i (text ++ (g.hash ++ path)) issuer (tie || tied) gs old new depth limit
+      → Grouping v c n i (data_to_hash text now tie) (g ∷ gs) (spending_of old spent depth limit) → AnswersChoice v c now g.members (choice_answer path issuer tied) (spending_of spent new depth limit)
+      → Grouping v c n i (data_to_hash (text ++ (g.hash ++ path)) issuer (tie || tied)) gs (spending_of old new depth limit)
   grouping-turn {new = new} k a = rw (a.path_is, a.issuer_is, a.tie_is) (grouping-step k a.choice a.is_choice new a.spent a.within)
 
   pub grouping-end : {n : B} {i : List B} {text : List ℕ} {now : List B} {tie : Bool} {old spent depth limit : ℕ}
-      → Grouping v c n i text now tie [] old spent depth limit → AnswersCall v c n i (answer (v.digest text) now tie) (spending_of old spent depth limit)
+      → Grouping v c n i (data_to_hash text now tie) [] (spending_of old spent depth limit) → AnswersCall v c n i (answer (v.digest text) now tie) (spending_of old spent depth limit)
   grouping-end {n = n} {i = i} {text = text} {now = now} {tie = tie} k =
       let s = k.spent_is in
       let d = k.within in
@@ -294,11 +293,8 @@ module _ {B : Type 0} (v : Nodes B) (c : List B) where
       }
 
 module _ {B : Type 0} {v : Nodes B} (laws : AreNodes v) (c : List B) where
-  abbrev pub AllListed : List (Group B) → Type 0
-  AllListed gs = (g : Group B) → Contains gs g → AreListed v g.members
-
   grouping-complete : {n : B} {i : List B} {text : List ℕ} {now : List B} {tie : Bool} {g : Group B} {gs : List (Group B)} {old spent depth limit : ℕ}
-      → Grouping v c n i text now tie (g ∷ gs) old spent depth limit → AllListed gs → (x : Choice B) → IsGroupChoice v c now g.members x
+      → Grouping v c n i (data_to_hash text now tie) (g ∷ gs) (spending_of old spent depth limit) → AreGroupsListed v gs → (x : Choice B) → IsGroupChoice v c now g.members x
       → (o : Outcome B) × IsNDegree v c n i o × (spent + x.work ≤ old + o.work) × (x.depth < o.depth)
   grouping-complete {n = n} {i = i} {text = text} {tie = tie} {g = g} {gs = gs} k listed x is_choice =
       let rest = groups-exist laws c (text ++ (g.hash ++ x.path)) x.issuer gs listed in
@@ -311,14 +307,14 @@ module _ {B : Type 0} {v : Nodes B} (laws : AreNodes v) (c : List B) where
       )
 
   grouping-over : {n : B} {i : List B} {text : List ℕ} {now : List B} {tie : Bool} {g : Group B} {gs : List (Group B)} {old spent depth limit : ℕ}
-      → Grouping v c n i text now tie (g ∷ gs) old spent depth limit → AllListed gs → (k : ℕ) → ChoiceOver v c now g.members spent k → CallOver v c n i old k
+      → Grouping v c n i (data_to_hash text now tie) (g ∷ gs) (spending_of old spent depth limit) → AreGroupsListed v gs → (k : ℕ) → ChoiceOver v c now g.members spent k → CallOver v c n i old k
   grouping-over w listed k h = let o = grouping-complete w listed h.choice h.is_choice in let e = h.over in let a = o.2 in record { outcome = o.0; call = o.1; over = omega arith }
 
   grouping-deep : {n : B} {i : List B} {text : List ℕ} {now : List B} {tie : Bool} {g : Group B} {gs : List (Group B)} {old spent depth limit : ℕ}
-      → Grouping v c n i text now tie (g ∷ gs) old spent depth limit → AllListed gs → (k : ℕ) → ChoiceDeep v c now g.members depth k → CallDeep v c n i depth k
+      → Grouping v c n i (data_to_hash text now tie) (g ∷ gs) (spending_of old spent depth limit) → AreGroupsListed v gs → (k : ℕ) → ChoiceDeep v c now g.members depth k → CallDeep v c n i depth k
   grouping-deep w listed k h = let o = grouping-complete w listed h.choice h.is_choice in let e = h.over in let a = o.3 in record { outcome = o.0; call = o.1; over = omega arith }
 
   pub grouping-fault : {n : B} {i : List B} {text : List ℕ} {now : List B} {tie : Bool} {g : Group B} {gs : List (Group B)} {old spent depth limit : ℕ} {limits limits' : Limits}
-      → Grouping v c n i text now tie (g ∷ gs) old spent depth limit → AllListed gs → limits ≡ limits' → (e : CanonFault)
+      → Grouping v c n i (data_to_hash text now tie) (g ∷ gs) (spending_of old spent depth limit) → AreGroupsListed v gs → limits ≡ limits' → (e : CanonFault)
       → IsFaultOf limits (ChoiceOver v c now g.members spent) (ChoiceDeep v c now g.members depth) e → IsFaultOf limits' (CallOver v c n i old) (CallDeep v c n i depth) e
   grouping-fault w listed same e h = same_fault same (grouping-over w listed) (grouping-deep w listed) e h

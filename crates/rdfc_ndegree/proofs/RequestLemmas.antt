@@ -30,7 +30,7 @@ use Rattle.rdfc_ndegree.proofs.TableCarry.{at, no_blank, table-carries, table-le
 use Rattle.rdfc_ndegree.proofs.BuildLemmas.{number-get, number-below}
 use Rattle.rdfc_ndegree.proofs.Tables.{absent-any}
 use Rattle.rdfc_ndegree.proofs.TableLemmas.{numbered_blank, got_map, zip-find, length-names}
-use Rattle.rdfc_ndegree.proofs.Progress.{spending_of}
+use Rattle.rdfc_ndegree.specs.Internal.Progress.{spending_of}
 
 -- ---- the issuer that has named a list without repeats
 

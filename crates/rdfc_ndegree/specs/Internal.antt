@@ -4,3 +4,6 @@ pub mod Grouping
 pub mod Issuing
 pub mod Sequences
 pub mod Evaluations
+pub mod Progress
+pub mod Frames
+pub mod Weights

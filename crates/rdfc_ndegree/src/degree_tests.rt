@@ -1,10 +1,13 @@
 //! Calls over a table, within exactly their limits.
 use crate::tests::{
-    ALONE, First, INNER, MIDDLE, O, OUTER, P, PAIR, Q, Row, TWIN, TWINS, hashes, meter, quads,
+    ALONE, First, INNER, MIDDLE, O, OUTER, P, PAIR, Q, Row, TWIN, TWINS, digits, hashes, meter,
+    quads,
 };
 use crate::{
-    CanonFault, Canonical, Memory, Meter, NodePath, NodeTable, Sequence, hash_n_degree, node_table,
+    CanonFault, Canonical, Memory, Meter, NodePath, NodeTable, Sequence, Text, hash_n_degree,
+    node_table,
 };
+use nquads::{BlankHash, TextQuad, TextQuads};
 use std::alloc::Global;
 
 /// What a call gives, and how many arrangements and open calls it takes.
@@ -160,5 +163,43 @@ fn node_that_stands_alone(rt: HostRuntime) -> Result<(), CanonFault> {
     let path = call(rt.alloc(), &table, 0, &mut meter(3, 2, 1))?;
     assert!(rt; is_path(&path, &want));
     assert!(rt; is_exact(rt.alloc(), &table, 0, &want)?);
+    Ok(())
+}
+
+/// The name of a node of a ring.
+fn name(alloc: Global, node: usize) -> Result<Text, Memory> {
+    Ok(Text::from_string(format!(in alloc; "_:e{node}")?))
+}
+
+/// A ring of nodes, each of which points to the next one.
+fn ring(alloc: Global, nodes: usize) -> Result<NodeTable, Memory> {
+    let mut quads = Vec::new(alloc);
+    let mut hashes = Vec::new(alloc);
+    for node in 0..nodes {
+        quads.push(TextQuad {
+            subject: name(alloc, node)?,
+            predicate: Text::from_str(alloc, P)?,
+            object: name(alloc, if node + 1 < nodes { node + 1 } else { 0 })?,
+            graph: None,
+        })?;
+        hashes.push(BlankHash {
+            blank: name(alloc, node)?,
+            hash: digits(PAIR),
+        })?;
+    }
+    node_table(alloc, &TextQuads::from_vec(quads), hashes.as_slice(), &[])
+}
+
+// Each call waits for the one on the next node of the ring, so that 3,000 are open at once.
+#[test]
+fn ring_of_three_thousand_nodes(rt: HostRuntime) -> Result<(), CanonFault> {
+    let table = ring(rt.alloc(), 3_000)?;
+    let mut exact = meter(0, 6_000, 3_000);
+    let path = call(rt.alloc(), &table, 0, &mut exact)?;
+    let hash = "b54a740ff2d43d509f7b9dd6dd901cf922ecab003c29568b5d4f43d065009042";
+    assert!(rt; path.hash.as_slice() == hash.as_bytes());
+    assert_eq!(rt; path.issuer.len(), 3_000);
+    assert!(rt; !path.tie);
+    assert_eq!(rt; exact.spent, 6_000);
     Ok(())
 }

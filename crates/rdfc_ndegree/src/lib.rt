@@ -16,13 +16,18 @@ mod building;
 mod building_tests;
 mod canonical;
 mod choice;
+mod chosen_path;
 mod degree;
 #[cfg(test)]
 mod degree_tests;
 mod firsts;
+mod frames;
+mod hash_groups;
 mod identifiers;
 mod limits;
+mod moves;
 mod names;
+mod nested_calls;
 mod path;
 mod related;
 mod table;

@@ -38,7 +38,7 @@ pub(crate) const MIDDLE: &str = "69a82c45ebabc5ac7fe19967183f3ec87f131b48507f08a
 
 pub(crate) const OUTER: &str = "836d4f704824bd9ba70e62eed2d78299c48975522e48d7517bd8753dc1021b59";
 
-fn digits(text: &str) -> [u8; 64] {
+pub(crate) fn digits(text: &str) -> [u8; 64] {
     let mut digits = [0u8; 64];
     for (digit, byte) in digits.iter_mut().zip(text.as_bytes()) {
         *digit = *byte;

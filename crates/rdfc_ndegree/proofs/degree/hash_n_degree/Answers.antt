@@ -9,5 +9,5 @@ returns-then-depth-meter-clause-deep c = λ limit e.
     let same : limit ≡ c.args.meter.now.limits.depth = cc in
     (same, rw same (call-too_deep (table-lawful c.args.table.now c.see_closed.ensures) c.args.canonical.now c.args.node c.args.issuer c.args.depth c.args.meter.now.limits.depth (row-listed c.args.table.now c.args.node c.requires.node) c.if-depth-meter.true))
 
-pub call-requires-clause-nodes : goal.call-requires-clause-nodes
-call-requires-clause-nodes c = table-lawful c.args.table.now c.see_closed.ensures
+pub hash_on_stack-requires-clause-nodes : goal.hash_on_stack-requires-clause-nodes
+hash_on_stack-requires-clause-nodes c = table-lawful c.args.table.now c.see_closed.ensures

@@ -1,0 +1,20 @@
+use Rattle.std.proofs.lemmas.Result.{IfOk-weaker}
+use Rattle.rdfc_ndegree.specs.Internal.Frames.{setting}
+use Rattle.rdfc_ndegree.proofs.Weighing.{choice-first, less-more}
+use Rattle.rdfc_ndegree.proofs.Replies.{choice-stands}
+use Rattle.rdfc_ndegree.proofs.chosen_path.begin_choice.Goals as goal
+
+pub returns-clause-ok : goal.returns-clause-ok
+returns-clause-ok c = λ rows k fit.
+    c.next_arrangement.ensures.ok rows k c.args.members.now c.args.meter.now.spent
+    (choice-stands (setting rows k c.args.meter.now.limits) c.args.meter.now.spent c.args.depth fit.1 c.args.issuer c.args.members.now c.in_ok-left.left c.new-best.result fit.0 c.in_ok-left.ensures c.new-best.ensures.best)
+
+pub returns-clause-fault : goal.returns-clause-fault
+returns-clause-fault c = λ rows k laws fit.
+    c.next_arrangement.ensures.fault rows k c.args.members.now c.args.meter.now.spent laws
+    (choice-stands (setting rows k c.args.meter.now.limits) c.args.meter.now.spent c.args.depth fit.1 c.args.issuer c.args.members.now c.in_ok-left.left c.new-best.result fit.0 c.in_ok-left.ensures c.new-best.ensures.best)
+
+pub returns-clause-lessens : goal.returns-clause-lessens
+returns-clause-lessens c = λ most.
+    IfOk-weaker c.next_arrangement.result _ _ (λ next less. less-more most _ 1 c.args.meter.now c.next_arrangement.new.meter next (choice-first c.args.members.now c.in_ok-left.left c.in_ok-left.ensures) less)
+    (c.next_arrangement.ensures.lessens most)
