@@ -1,6 +1,6 @@
 //! Reading JSON text as a tree. RFC 8259.
 
-ghost use Rattle.std.specs.Prelude.{◌≡◌, true, IfOk};
+ghost use Rattle.std.specs.Prelude.{◌≡◌, [], true, IfOk};
 ghost use Rattle.serde_json.specs.Data.{number as as_number};
 ghost use Rattle.serde_json.specs.View.{view, number_view, items_view, members_view};
 ghost use Rattle.json_tree.specs.Trees.{tree_of, is_lawful, is_in_range};
@@ -81,6 +81,13 @@ fn number_from(number: &Number) -> Tree
     }
 }
 
+/// No items yet, with room for so many.
+fn room_for<T>(alloc: Global, items: usize) -> Result<Items<T>, Memory>
+    ensures { IfOk result (λ them. them ≡ []) }
+{
+    Ok(Items::from_vec(Vec::with_capacity(alloc, items)?))
+}
+
 #[cycle(tree_from)]
 fn tree_from(alloc: Global, value: Value) -> Result<Tree, Memory>
     ensures { IfOk result (IsTreeOf (view value)) }
@@ -99,7 +106,7 @@ fn tree_from(alloc: Global, value: Value) -> Result<Tree, Memory>
 fn elements_from(alloc: Global, values: Vec<Value>) -> Result<Items<Item<Tree>>, Memory>
     ensures { IfOk result (AreElementsOf (items_view values.items)) }
 {
-    let mut elements = Items::new(alloc);
+    let mut elements = room_for(alloc, values.len())?;
     let mut at = 0;
     for item in values {
         let value = tree_from(alloc, item)?;
@@ -113,7 +120,7 @@ fn elements_from(alloc: Global, values: Vec<Value>) -> Result<Items<Item<Tree>>,
 fn members_from(alloc: Global, map: Map<String, Value>) -> Result<Items<Member<Tree>>, Memory>
     ensures { IfOk result (AreEntriesOf (members_view map.entries)) }
 {
-    let mut members = Items::new(alloc);
+    let mut members = room_for(alloc, map.len())?;
     for (name, member) in map {
         let key = Text::from_string(name);
         let value = tree_from(alloc, member)?;
