@@ -1,7 +1,7 @@
 -- Membership of a list by its head and its tail, and lists in strict order.
-use Rattle.std.proofs.Common.{◌≡◌, ℕ, zero, suc, ◌+◌, ◌<◌, List, [], ◌∷◌, ◌++◌, length, drop, get_or, Option, Some, refl, sym, ap, ◌∙◌, subst, inl, inr, ⊎_elim, arith, Ordering}
+use Rattle.std.proofs.Common.{◌≡◌, ℕ, Bool, ◌||◌, zero, suc, ◌+◌, ◌<◌, List, [], ◌∷◌, ◌++◌, length, drop, get_or, Option, Some, refl, sym, ap, ◌∙◌, subst, inl, inr, ⊎_elim, arith, Ordering}
 use Rattle.std.specs.Prelude.{◌⊎◌, ◌≢◌, Contains, map}
-use Rattle.std.specs.List.{AllByRecursion}
+use Rattle.std.specs.List.{AllByRecursion, flat_map, list_any}
 use Rattle.std.specs.List.Sorted.{IsStrictlySortedBy}
 use Rattle.std.specs.Cmp.{IsTotalOrder}
 use Rattle.std.specs.declared.cmp.Ordering.TheVariants.{Less, Equal}
@@ -10,7 +10,7 @@ use Rattle.std.proofs.Math.ListN.{get_or-map}
 use Rattle.std.proofs.lemmas.List.{drop_more, length-map}
 use Rattle.std.proofs.lemmas.Cmp.{tied_itself}
 use Rattle.std.proofs.lemmas.List.Kept.{AllPairs-cons}
-use Rattle.std.proofs.lemmas.List.Elements.{All-from_recursion}
+use Rattle.std.proofs.lemmas.List.Elements.{All-from_recursion, Contains-append_left, Contains-append_right, Contains-append_cases}
 use Rattle.base_types.specs.Sets.{SameElements, AllDiffer}
 
 -- ---- membership
@@ -55,6 +55,11 @@ pub map-map : {X Y Z : Type 0} (g : Y → Z) (f : X → Y) (xs : List X) → map
 map-map g f [] = refl
 map-map g f (x ∷ xs) = ap (λ zs. g (f x) ∷ zs) (map-map g f xs)
 
+-- whether some image passes a test is whether the image of some element does
+pub list_any-map : {X Y : Type 0} (test : Y → Bool) (f : X → Y) (xs : List X) → list_any test (map f xs) ≡ list_any (λ x. test (f x)) xs
+list_any-map test f [] = refl
+list_any-map test f (x ∷ xs) = ap (λ b. test (f x) || b) (list_any-map test f xs)
+
 -- a list whose images differ has no repeats
 pub AllDiffer-images : {X Y : Type 0} (f : X → Y) (xs : List X) → AllDiffer (map f xs) → AllDiffer xs
 AllDiffer-images f xs differ i j d below within same =
@@ -97,6 +102,18 @@ pub Contains-from_map : {X Y : Type 0} (f : X → Y) (xs : List X) (y : Y) → C
 Contains-from_map f [] y c = absurd (Contains-nil y c)
 Contains-from_map f (x ∷ xs) y c =
     ⊎_elim (λ e. (x, Contains-here x xs, e)) (λ d. let found = Contains-from_map f xs y d in (found.0, Contains-there x xs found.0 found.1, found.2)) (Contains-cons_cases (f x) (map f xs) y c)
+
+-- what stands in the list of an element stands in the joined list
+pub Contains-flat_map : {X Y : Type 0} (f : X → List Y) (xs : List X) (x : X) (y : Y) → Contains xs x → Contains (f x) y → Contains (flat_map f xs) y
+Contains-flat_map f [] x y c d = absurd (Contains-nil x c)
+Contains-flat_map f (z ∷ zs) x y c d =
+    ⊎_elim (λ e. Contains-append_left (f z) (flat_map f zs) y (subst (λ w. Contains (f w) y) (sym e) d)) (λ k. Contains-append_right (f z) (flat_map f zs) y (Contains-flat_map f zs x y k d)) (Contains-cons_cases z zs x c)
+
+-- what stands in the joined list stands in the list of an element
+pub Contains-from_flat_map : {X Y : Type 0} (f : X → List Y) (xs : List X) (y : Y) → Contains (flat_map f xs) y → (x : X) × Contains xs x × Contains (f x) y
+Contains-from_flat_map f [] y c = absurd (Contains-nil y c)
+Contains-from_flat_map f (x ∷ xs) y c =
+    ⊎_elim (λ d. (x, Contains-here x xs, d)) (λ d. let found = Contains-from_flat_map f xs y d in (found.0, Contains-there x xs found.0 found.1, found.2)) (Contains-append_cases (f x) (flat_map f xs) y c)
 
 map_one_way : {X Y : Type 0} (f : X → Y) (xs ys : List X) → SameElements xs ys → (y : Y) → Contains (map f xs) y → Contains (map f ys) y
 map_one_way f xs ys s y c = let found = Contains-from_map f xs y c in subst (Contains (map f ys)) found.2 (Contains-map f ys found.0 ((s found.0).0 found.1))

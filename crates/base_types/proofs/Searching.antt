@@ -1,6 +1,6 @@
 -- Lists of which each element passes a test together with the next, and what a search by halving finds where keys rise.
 use Rattle.std.proofs.Common.{◌≡◌, ℕ, ◌<◌, zero, suc, Bool, true, false, ◌&&◌, List, [], ◌∷◌, map, length, get_or, Some, None, find, Ordering, Less, Equal, Greater, refl, ap, add-one, ◌∙◌, subst, arith, inl, inr}
-use Rattle.std.specs.Ordering.{is_lt, is_eq, eq_by_cmp, ordering_reverse}
+use Rattle.std.specs.Ordering.{is_lt, is_eq, eq_by_cmp, ordering_reverse, ordering_then}
 use Rattle.std.specs.Cmp.{IsTotalOrder}
 use Rattle.std.specs.List.{AllWithin, HoldsAt, AllByRecursion}
 use Rattle.std.specs.List.Sorted.{IsSortedBy, IsStrictlySortedBy}
@@ -34,6 +34,12 @@ pub is_less : (o : Ordering) → is_lt o ≡ true → o ≡ Less
 is_less Less h = refl
 is_less Equal h = absurd (cc)
 is_less Greater h = absurd (cc)
+
+-- of two comparisons in turn that leave it open, each does
+pub both_equal : (o p : Ordering) → ordering_then o p ≡ Equal → (o ≡ Equal) × (p ≡ Equal)
+both_equal Less p e = absurd (cc)
+both_equal Equal p e = (refl, e)
+both_equal Greater p e = absurd (cc)
 
 -- ---- keys that rise by a total order
 

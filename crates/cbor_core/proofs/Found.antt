@@ -7,6 +7,7 @@ use Rattle.std.specs.Str.{is_utf8}
 use Rattle.std.proofs.lemmas.Str.{IsUtf8-from_is_utf8}
 use Rattle.std.proofs.lemmas.Bool.{ltb-false, eqb-true, eqb-false}
 use Rattle.std.proofs.lemmas.List.{take-append-drop, length-take, append-nil}
+use Rattle.base_types.proofs.Options.{took}
 use Rattle.cbor_core.specs.declared.fault.CborFault.{CborFault}
 use Rattle.cbor_core.specs.declared.fault.CborFault.TheVariants as f
 use Rattle.cbor_core.specs.declared.item.Item.{Item}
@@ -15,7 +16,7 @@ use Rattle.cbor_core.specs.Grammar.{IsBytes, head_of, IsHead, IsString, EncodesF
 use Rattle.cbor_core.specs.Internal.Results.{◌>>=◌}
 use Rattle.cbor_core.specs.Internal.Reading.{Reader, start_of, argument_at, string_at, whole_at, blob_at, text_string_at, flat_at, items_at, list_at, key_at, entries_at, map_at, item_at}
 use Rattle.cbor_core.proofs.Arguments.{IsBytes-drop, argument_takes}
-use Rattle.cbor_core.proofs.Outcomes.{same_ok, took, passed, passed_true, went_on}
+use Rattle.cbor_core.proofs.Outcomes.{same_ok, passed, passed_true, went_on}
 use Rattle.cbor_core.proofs.Maps.{from_put_all}
 use Rattle.cbor_core.proofs.Keys.{put_all, has, Fresh, fresh_before}
 

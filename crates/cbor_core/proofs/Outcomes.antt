@@ -17,11 +17,6 @@ same_ok x y e = cc
 pub same_err : {A E : Type 0} (d e : E) → err_of A E d ≡ err_of A E e → d ≡ e
 same_err d e same = cc
 
--- which branch a test took
-pub took : {A : Type 0} (b : Bool) (x y z : A) → cond b x y ≡ z → ((b ≡ true) × (x ≡ z)) ⊎ ((b ≡ false) × (y ≡ z))
-took true x y z e = inl (refl, e)
-took false x y z e = inr (refl, e)
-
 -- a test that refuses where it is true, and did not
 pub passed : {A E : Type 0} (b : Bool) (d : E) (r : Result A E) (z : A) → cond b (Err d) r ≡ Ok z → (b ≡ false) × (r ≡ Ok z)
 passed true d r z e = absurd cc

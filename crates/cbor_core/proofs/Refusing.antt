@@ -6,6 +6,7 @@ use Rattle.std.specs.Str.{IsUtf8, is_utf8}
 use Rattle.std.proofs.lemmas.Str.{is_utf8-from_IsUtf8}
 use Rattle.std.proofs.lemmas.Bool.{ltb-true, ltb-false, lt-ltb, le-ltb, eqb-true, eqb-false, ne_eqb, or_parts, or_cases, cases_Bool, and_parts, false≢true}
 use Rattle.std.proofs.lemmas.List.{length-append}
+use Rattle.base_types.proofs.Options.{took}
 use Rattle.cbor_core.specs.declared.fault.CborFault.{CborFault}
 use Rattle.cbor_core.specs.declared.fault.CborFault.TheVariants as f
 use Rattle.cbor_core.specs.declared.item.Item.{Item}
@@ -13,7 +14,7 @@ use Rattle.cbor_core.specs.declared.item.Item.TheVariants as v
 use Rattle.cbor_core.specs.Grammar.{IsBytes, head_of, EncodesEach}
 use Rattle.cbor_core.specs.Refusals.{Rest, IsBehind, IsBehindHead, RefusesWidth, RefusesArgument, RefusesHead, is_item, RefusesString, RefusesText, RefusesEach}
 use Rattle.cbor_core.specs.Internal.Reading.{Reader, start_of, byte_at, wide_at, argument_at, string_at, whole_at, blob_at, text_string_at, flat_at, items_at, list_at, map_at, item_at}
-use Rattle.cbor_core.proofs.Outcomes.{same_err, took, stopped}
+use Rattle.cbor_core.proofs.Outcomes.{same_err, stopped}
 use Rattle.cbor_core.proofs.Arguments.{argument_takes, argument_again}
 use Rattle.cbor_core.proofs.Again.{Again, string_again}
 use Rattle.cbor_core.proofs.Found.{Takes, string_takes}

@@ -5,6 +5,7 @@ use Rattle.std.specs.Ordering.{nat_cmp}
 use Rattle.std.specs.BTreeMap.{insert_entry}
 use Rattle.std.proofs.lemmas.Bool.{cases_Bool, ltb-false, lt-ltb, le-ltb, eqb-true, eqb-false, ne_eqb, and_parts, true≢false}
 use Rattle.std.proofs.lemmas.List.{length-append}
+use Rattle.base_types.proofs.Options.{took}
 use Rattle.cbor_core.specs.declared.fault.CborFault.{CborFault}
 use Rattle.cbor_core.specs.declared.fault.CborFault.TheVariants as f
 use Rattle.cbor_core.specs.declared.item.Item.{Item}
@@ -12,7 +13,7 @@ use Rattle.cbor_core.specs.Grammar.{IsBytes, head_of, EncodesEntries, KeysDiffer
 use Rattle.cbor_core.specs.Refusals.{Rest, IsBehind, IsBehindHead, RefusesHead, is_key, RefusesEntry, RefusesEntries}
 use Rattle.cbor_core.specs.Internal.Results.{◌>>=◌}
 use Rattle.cbor_core.specs.Internal.Reading.{Reader, start_of, argument_at, key_at, entries_at}
-use Rattle.cbor_core.proofs.Outcomes.{same_err, took, stopped}
+use Rattle.cbor_core.proofs.Outcomes.{same_err, stopped}
 use Rattle.cbor_core.proofs.Keys.{put_all, has, Fresh, fresh_before, fresh_after, fresh_at_first, lacks_before, lacks_after}
 use Rattle.cbor_core.proofs.Again.{Again, key_again}
 use Rattle.cbor_core.proofs.Found.{Takes, key_takes}

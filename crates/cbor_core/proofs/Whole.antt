@@ -3,13 +3,14 @@ use Rattle.std.proofs.Common.{◌≡◌, ◌≢◌, ℕ, ◌+◌, ◌-◌, ◌�
 use Rattle.std.specs.Prelude.{IfOk}
 use Rattle.std.proofs.lemmas.Bool.{eqb-true, eqb-false, ne_eqb}
 use Rattle.std.proofs.lemmas.List.{append-nil, take-append-drop, length-append, length-drop, nil_from_length, append_cancel_right}
+use Rattle.base_types.proofs.Options.{took}
 use Rattle.cbor_core.specs.declared.fault.CborFault.{CborFault}
 use Rattle.cbor_core.specs.declared.fault.CborFault.TheVariants as f
 use Rattle.cbor_core.specs.declared.item.Item.{Item}
 use Rattle.cbor_core.specs.Grammar.{IsBytes, Encodes}
 use Rattle.cbor_core.specs.Internal.Results.{Gives, Unless}
 use Rattle.cbor_core.specs.Internal.Reading.{is_memory, start_of, item_at, reading}
-use Rattle.cbor_core.proofs.Outcomes.{ended, went_on, same_ok, same_err, stopped, took}
+use Rattle.cbor_core.proofs.Outcomes.{ended, went_on, same_ok, same_err, stopped}
 use Rattle.cbor_core.specs.Refusals.{UnlessMemory, RefusesItem, IsRefused, input_of, ReadsAs, IsFinal}
 use Rattle.cbor_core.proofs.RefusingItems.{item_refused, item_stops}
 use Rattle.cbor_core.proofs.MoreBytes.{item_stays}

@@ -1,6 +1,6 @@
 -- One equation for each variant of a tree, for the folds over trees: range, nesting, indexes, and misplaced
 -- version numbers.
-use Rattle.std.proofs.Common.{◌≡◌, ℕ, suc, ℤ, Bool, true, false, ◌||◌, List, [], ◌∷◌, map, Option, Some, None, if◌then◌else◌, refl, sym, ap, ◌∙◌}
+use Rattle.std.proofs.Common.{◌≡◌, ℕ, suc, ℤ, Bool, true, false, List, [], map, Option, Some, None, if◌then◌else◌, sym, ap, ◌∙◌}
 use Rattle.std.specs.List.{list_all, list_any}
 use Rattle.std.proofs.lemmas.List.Folds.{list_all-map}
 use Rattle.std.specs.Fmt.{signed_decimal}
@@ -22,7 +22,7 @@ use Rattle.json_tree.specs.Prints.{members_data, data_step, data_of, json_items,
 use Rattle.json_tree.specs.Internal.Writes.{item_json, member_json}
 use Rattle.json_tree.specs.Places.{first_of, below, is_version_key, misplaced_step, misplaced}
 use Rattle.json_tree.specs.Internal.Misplaced.{first_in_items, first_in_members}
-use Rattle.base_types.proofs.Lists.{map-map}
+use Rattle.base_types.proofs.Lists.{map-map, list_any-map}
 
 -- a member with its value's JSON value
 abbrev pub datum : Member Tree → Member Data
@@ -181,11 +181,6 @@ holds_version-Version = ap holds_version (sym v.rolls-Version) ∙ fold-roll-Tre
 -- a text holds no version number
 pub holds_version-Text : (text : List ℕ) → holds_version (v.Text text) ≡ false
 holds_version-Text text = ap holds_version (sym (v.rolls-Text text)) ∙ fold-roll-Tree Bool version_step (Tree-F.Text text)
-
--- whether some image passes a test is whether the image of some element does
-pub list_any-map : {X Y : Type 0} (test : Y → Bool) (f : X → Y) (xs : List X) → list_any test (map f xs) ≡ list_any (λ x. test (f x)) xs
-list_any-map test f [] = refl
-list_any-map test f (x ∷ xs) = ap (λ b. test (f x) || b) (list_any-map test f xs)
 
 -- a list holds a version number where some element does
 pub holds_version-List : (items : List (Item Tree)) → holds_version (v.List items) ≡ list_any (λ i. holds_version i.value) items

@@ -13,7 +13,7 @@ use Rattle.json_tree.specs.declared.tree.Tree.{Tree}
 use Rattle.json_tree.specs.declared.tree.Member.{Member}
 use Rattle.json_tree.specs.Trees.{each_next, is_before}
 use Rattle.json_tree.specs.Places.{value_of}
-use Rattle.base_types.proofs.Orders.{is_before-transitive, is_before-differs}
+use Rattle.base_types.proofs.Orders.{is_before-transitive, is_before-differs, bytes_eq-same}
 use Rattle.base_types.proofs.Searching.{each_next-tail, each_next-at, is_less}
 
 -- `&&` taken apart and put together
@@ -39,14 +39,10 @@ first_is_before m (n ∷ ns) zero d h l = left_of (is_before m.key n.key) _ h
 first_is_before m (n ∷ ns) (suc k) d h l =
     is_before-transitive m.key n.key _ (left_of (is_before m.key n.key) _ h) (first_is_before n ns k d (right_of (is_before m.key n.key) _ h) (omega arith))
 
--- a name equals itself
-pub bytes_eq-itself : (a : List ℕ) → bytes_eq a a ≡ true
-bytes_eq-itself a = (bytes_eq-Decides a a).1 refl
-
 -- the one member of a name is the first of that name
 pub find_at_name : (ms : List (Member Tree)) (k : ℕ) (d : Member Tree) → NamesRise ms → k < length ms → find (λ m. bytes_eq m.key (get_or ms k d).key) ms ≡ Some (get_or ms k d)
 find_at_name [] k d h l = absurd (omega arith)
-find_at_name (m ∷ ms) zero d h l = rw (bytes_eq-itself m.key)
+find_at_name (m ∷ ms) zero d h l = rw (bytes_eq-same m.key m.key refl)
 find_at_name (m ∷ ms) (suc k) d h l =
     rw (is_before-differs m.key (get_or ms k d).key (first_is_before m ms k d h (omega arith))) (find_at_name ms k d (each_next-tail _ m ms h) (omega arith))
 

@@ -2,6 +2,7 @@
 -- that it is true exactly where the two values are the same.
 use Rattle.std.specs.Prelude.{◌≡◌, ℕ, Bool, true, false, ◌&&◌, ◌==◌, Decides, refl}
 use Rattle.std.specs.Cmp.{IsEquivalence, IsPartialEquivalence, decided, partial_equiv_from_equiv, unsigned_Decides}
+use Rattle.std.proofs.lemmas.Bool.{and_parts, and_from}
 use mathlib.Core.Path.{sym, ap}
 use mathlib.Core.Bool.{true≢false}
 use base.Stored.{Coded, Gv, gnil, gnum, gcons}
@@ -58,14 +59,6 @@ second a = a
 apart : {A : Type 0} → (A → true ≡ false) → Decides false A
 apart never = (λ e. absurd (true≢false (sym e)), λ a. absurd (true≢false (never a)))
 
-both_true : (x y : Bool) → (x && y) ≡ true → (x ≡ true) × (y ≡ true)
-both_true true y h = (refl, h)
-both_true false y h = absurd (true≢false (sym h))
-
-and_true : (x y : Bool) → x ≡ true → y ≡ true → (x && y) ≡ true
-and_true true y p q = q
-and_true false y p q = p
-
 -- codes that pass the test are the same code, and no others
 pub same_code-Decides : (a b : Gv) → Decides (same_code a b) (a ≡ b)
 same_code-Decides gnil gnil = (λ e. refl, λ e. refl)
@@ -82,9 +75,9 @@ same_code-Decides (gcons a b) (gcons c d) =
     let here = same_code-Decides a c in
     let there = same_code-Decides b d in (
       λ e.
-          let parts = both_true (same_code a c) (same_code b d) e in
+          let parts = and_parts (same_code a c) (same_code b d) e in
           λ k. gcons (here.0 parts.0 k) (there.0 parts.1 k),
-      λ e. and_true (same_code a c) (same_code b d) (here.1 (ap first e)) (there.1 (ap second e)),
+      λ e. and_from (same_code a c) (same_code b d) (here.1 (ap first e)) (there.1 (ap second e)),
     )
 
 -- and values the same value

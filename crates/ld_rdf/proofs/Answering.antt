@@ -1,6 +1,7 @@
 -- What the call answers, from what its steps gave.
 use Rattle.std.proofs.Common.{◌≡◌, true, List, map, Some, None, Err, option_map, sym, subst}
 use Rattle.base_types.specs.Sets.{SameElements, AllDiffer}
+use Rattle.base_types.proofs.Options.{option_map-Some}
 use Rattle.json_tree.specs.declared.tree.Tree.{Tree}
 use Rattle.json_tree.specs.Trees.{is_lawful}
 use Rattle.nquads.specs.Terms.{Statement, IsStatement}
@@ -11,7 +12,7 @@ use Rattle.ld_rdf.proofs.WholeRequests.{flat_statements}
 use Rattle.ld_rdf.specs.Internal.Outcomes.{BuildsItems}
 use Rattle.ld_rdf.specs.declared.fault.FlatFault.{FlatFault}
 use Rattle.ld_rdf.specs.declared.fault.FlatFault.TheVariants.{NotBuilt, Memory}
-use Rattle.ld_rdf.proofs.OptionsAndLists.{option_map-Some, option_map-None}
+use Rattle.ld_rdf.proofs.OptionsAndLists.{option_map-None}
 use Rattle.ld_rdf.proofs.Datasets.{flat_here, statement_here, dataset_here}
 use Rattle.ld_rdf.proofs.Complete.{statements_are_there}
 

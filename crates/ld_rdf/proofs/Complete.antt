@@ -16,10 +16,11 @@ use Rattle.ld_rdf.specs.Plain.{has_noncharacter}
 use Rattle.ld_rdf.specs.Flat.{at_context, at_id, HasText, term_place, IsFlat}
 use Rattle.ld_rdf.specs.Internal.Parts.{member_text, is_definition, property_of, is_id_or_context}
 use Rattle.ld_rdf.proofs.WholeRequests.{document_statements, flat_statements}
-use Rattle.ld_rdf.proofs.OptionsAndLists.{option_map-Some, list_all-from}
+use Rattle.ld_rdf.proofs.OptionsAndLists.{list_all-from}
 use Rattle.ld_rdf.proofs.Shapes.{Shape, child_is, names_down, at_term, at_member, terms_lawful, document_lawful, parts}
 use Rattle.ld_rdf.proofs.Meaning.{text_at-from, entry_false, property_from, statements_exist, value_at_member}
 use Rattle.base_types.proofs.Orders.{bytes_eq-same}
+use Rattle.base_types.proofs.Options.{option_map-Some}
 
 abbrev keys : List (Member Tree) → List (List ℕ)
 keys ms = map (λ m. m.key) ms

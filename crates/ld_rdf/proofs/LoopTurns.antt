@@ -10,8 +10,9 @@ use Rattle.ld_rdf.specs.declared.fault.FlatFault.TheVariants.{NotBuilt, Memory}
 use Rattle.ld_rdf.specs.Flat.{property_statement}
 use Rattle.ld_rdf.specs.Internal.Parts.{property_of, is_left_out, statements_beside}
 use Rattle.ld_rdf.specs.Internal.Outcomes.{Builds, BuildsItems}
-use Rattle.ld_rdf.proofs.OptionsAndLists.{option_map-Some, option_map-None}
+use Rattle.ld_rdf.proofs.OptionsAndLists.{option_map-None}
 use Rattle.base_types.proofs.Lists.{drop-next}
+use Rattle.base_types.proofs.Options.{option_map-Some}
 
 -- what is left, after what was made
 abbrev pub left : List TextQuad → Option (List Statement) → Option (List TextQuad)

@@ -17,9 +17,10 @@ use Rattle.ld_rdf.specs.Plain.{is_plain_iri, is_plain_term, has_noncharacter}
 use Rattle.ld_rdf.specs.Flat.{at_context, at_id, term_place, document_place, HasText, DefinesTerm, IsFlat, Means, property_statement}
 use Rattle.ld_rdf.specs.Internal.Parts.{only_if, member_text, is_definition, property_of, is_id_or_context, agrees}
 use Rattle.ld_rdf.proofs.WholeRequests.{statements_in, document_statements}
-use Rattle.ld_rdf.proofs.OptionsAndLists.{and_then-Some, option_map-Some, provided-Some, map_or-true, list_all-contains}
+use Rattle.ld_rdf.proofs.OptionsAndLists.{provided-Some, map_or-true, list_all-contains}
 use Rattle.ld_rdf.proofs.Shapes.{Shape, at_term, at_member, names-request, names-contexts, names-supplied, names-terms, names-document, terms_lawful, document_lawful}
 use Rattle.base_types.proofs.Orders.{bytes_eq-true, bytes_eq-same}
+use Rattle.base_types.proofs.Options.{and_then-Some, option_map-Some}
 
 -- ---- texts among members
 

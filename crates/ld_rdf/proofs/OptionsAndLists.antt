@@ -1,5 +1,5 @@
 -- Options, tests and lists, as the proofs on flat requests use them.
-use Rattle.std.proofs.Common.{◌≡◌, ℕ, Bool, true, false, not, ◌&&◌, List, [], ◌∷◌, map, length, inl, inr, Contains, Option, Some, None, option_map, option_and_then, refl, sym, ap, ◌∙◌, subst, arith}
+use Rattle.std.proofs.Common.{◌≡◌, ℕ, Bool, true, false, not, ◌&&◌, List, [], ◌∷◌, map, length, inl, inr, Contains, Option, Some, None, option_map, refl, sym, ap, ◌∙◌, subst, arith}
 use Rattle.std.specs.List.{list_all}
 use Rattle.std.specs.Option.{option_map_or}
 use Rattle.std.specs.Str.{bytes_eq}
@@ -12,16 +12,6 @@ use Rattle.ld_rdf.specs.Internal.Parts.{only_if}
 use Rattle.json_tree.proofs.Rising.{left_of, right_of}
 
 -- ---- options
-
--- what a chain of two steps gave, each step gave
-pub and_then-Some : {A B : Type 0} (f : A → Option B) (o : Option A) (y : B) → option_and_then f o ≡ Some y → (x : A) × (o ≡ Some x) × (f x ≡ Some y)
-and_then-Some f None y h = absurd (cc)
-and_then-Some f (Some x) y h = (x, refl, h)
-
--- what the image of an option is, is the image of what it holds
-pub option_map-Some : {A B : Type 0} (f : A → B) (o : Option A) (y : B) → option_map f o ≡ Some y → (x : A) × (o ≡ Some x) × (f x ≡ y)
-option_map-Some f None y h = absurd (cc)
-option_map-Some f (Some x) y h = (x, refl, cc)
 
 -- nothing has nothing as its image
 pub option_map-None : {A B : Type 0} (f : A → B) (o : Option A) → option_map f o ≡ None → o ≡ None
@@ -37,8 +27,6 @@ provided-Some false o y h = absurd (cc)
 pub map_or-true : {A : Type 0} (p : A → Bool) (o : Option A) → option_map_or p o false ≡ true → (x : A) × (o ≡ Some x) × (p x ≡ true)
 map_or-true p None h = absurd (cc)
 map_or-true p (Some x) h = (x, refl, h)
-
--- ---- tests
 
 -- ---- lists
 

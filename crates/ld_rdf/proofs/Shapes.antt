@@ -7,15 +7,16 @@ use Rattle.json_tree.specs.declared.place.Step.{Step}
 use Rattle.json_tree.specs.declared.place.Step.TheVariants.{Key}
 use Rattle.json_tree.specs.Trees.{is_lawful, AreLawful}
 use Rattle.json_tree.specs.Places.{child_of, look, names_in, names_at, members_of, value_of}
-use Rattle.json_tree.proofs.Rising.{bytes_eq-itself, left_of, right_of}
+use Rattle.json_tree.proofs.Rising.{left_of, right_of}
 use Rattle.json_tree.proofs.TreeLemmas.{child_of-members, names_at-members, members_of-Some, lawful_members, look_nothing}
 use Rattle.nquads.specs.Terms.{Statement}
 use Rattle.ld_rdf.specs.Flat.{at_context, context_place, term_place, document_place}
 use Rattle.ld_rdf.specs.Internal.Parts.{only_if, only_in, only_of, two_in, context_value, supplied_context}
 use Rattle.ld_rdf.proofs.WholeRequests.{document_statements, flat_statements}
-use Rattle.ld_rdf.proofs.OptionsAndLists.{and_then-Some, option_map-Some, provided-Some}
+use Rattle.ld_rdf.proofs.OptionsAndLists.{provided-Some}
 use Rattle.base_types.proofs.Lists.{same_some}
-use Rattle.base_types.proofs.Orders.{bytes_eq-true, bytes_eq-same}
+use Rattle.base_types.proofs.Orders.{bytes_eq-true, bytes_eq-same, bytes_eq-same}
+use Rattle.base_types.proofs.Options.{and_then-Some, option_map-Some}
 
 -- ---- one step down
 
@@ -72,7 +73,7 @@ module _ (r : Tree) (s : Shape r) where
       child_is r _ _ s.is_request ∙ rw (other, bytes_eq-same s.document.key (codes "document") s.document_key)
 
   child-supplied : child_of s.contexts.value (Key s.supplied.key) ≡ Some s.supplied.value
-  child-supplied = child_is s.contexts.value _ _ s.is_contexts ∙ rw (bytes_eq-itself s.supplied.key)
+  child-supplied = child_is s.contexts.value _ _ s.is_contexts ∙ rw (bytes_eq-same s.supplied.key s.supplied.key refl)
 
   child-wrapped : child_of s.supplied.value (Key at_context) ≡ Some s.wrapped.value
   child-wrapped = child_is s.supplied.value _ _ s.is_supplied ∙ rw (bytes_eq-same s.wrapped.key at_context s.wrapped_key)

@@ -1,9 +1,9 @@
 -- The blank nodes of a dataset and the numbers of their texts.
-use Rattle.std.proofs.Common.{◌≡◌, ℕ, ◌<◌, ◌≤◌, List, [], ◌∷◌, ◌++◌, length, map, get_or, Bool, true, false, All, Contains, Option, Some, None, IfSome, option_map, flat_map, refl, sym, ap, ◌∙◌, subst, inl, inr, arith}
+use Rattle.std.proofs.Common.{◌≡◌, ℕ, ◌<◌, ◌≤◌, List, [], ◌∷◌, ◌++◌, length, map, get_or, Bool, true, false, All, Contains, Option, Some, None, IfSome, option_map, refl, sym, ap, ◌∙◌, subst, inl, inr, arith}
 use Rattle.std.proofs.lemmas.Option.{none-some, same_Some}
 use Rattle.std.proofs.lemmas.List.Elements.{All-contains, Contains-append_left, Contains-append_right, Contains-append_cases}
 use Rattle.base_types.specs.Sets.{AllDiffer, SameElements}
-use Rattle.base_types.proofs.Lists.{Contains-nil, Contains-here, Contains-there, Contains-cons_cases, Contains-map, Contains-from_map}
+use Rattle.base_types.proofs.Lists.{Contains-nil, Contains-here, Contains-cons_cases, Contains-map, Contains-from_map, Contains-flat_map, Contains-from_flat_map}
 use Rattle.term_store.specs.Store.{text_at, begins_blank}
 use Rattle.term_store.specs.declared.store.TermId.{TermId}
 use Rattle.term_store.specs.declared.statements.Quad.{Quad}
@@ -22,26 +22,6 @@ use Rattle.nquads.proofs.Choices.{choose, zip_length, zip_differ, zip_all}
 use Rattle.nquads.proofs.Pigeonhole.{no_more}
 use Rattle.nquads.proofs.TextSays.{stands_in}
 use Rattle.nquads.proofs.StoringLemmas.{All-same_elements}
-
--- ---- joined lists
-
--- what stands in the list of one element stands in the joined list
-pub to_flat_map : {X Y : Type 0} (f : X → List Y) (xs : List X) (x : X) (y : Y) → Contains xs x → Contains (f x) y → Contains (flat_map f xs) y
-to_flat_map f [] x y m n = absurd (Contains-nil x m)
-to_flat_map f (w ∷ ws) x y m n =
-    elim (Contains-cons_cases w ws x m) [
-      | inl e ↦ Contains-append_left (f w) (flat_map f ws) y (subst (λ z. Contains (f z) y) (sym e) n)
-      | inr k ↦ Contains-append_right (f w) (flat_map f ws) y (to_flat_map f ws x y k n)
-    ]
-
--- and the other way round
-pub from_flat_map : {X Y : Type 0} (f : X → List Y) (xs : List X) (y : Y) → Contains (flat_map f xs) y → (x : X) × Contains xs x × Contains (f x) y
-from_flat_map f [] y m = absurd (Contains-nil y m)
-from_flat_map f (w ∷ ws) y m =
-    elim (Contains-append_cases (f w) (flat_map f ws) y m) [
-      | inl n ↦ (w, Contains-here w ws, n)
-      | inr n ↦ let r = from_flat_map f ws y n in (r.0, Contains-there w ws r.0 r.1, r.2)
-    ]
 
 -- ---- one term
 
@@ -138,12 +118,12 @@ blank_number texts quads d same b n =
     let s = from_blanks_in d b n in
     let q = Contains-from_map (quad_texts texts) quads (text_quad s.statement) ((same (text_quad s.statement)).1 (Contains-map text_quad d s.statement s.within)) in
     let r = statement_id texts q.0 s.statement b q.2 s.blank_node in
-    record { number = r.number; within = to_flat_map (quad_blank_ids texts) quads q.0 r.number q.1 r.within; names = r.names }
+    record { number = r.number; within = Contains-flat_map (quad_blank_ids texts) quads q.0 r.number q.1 r.within; names = r.names }
 
 -- and each number its blank node
 number_blank : (texts : List (List ℕ)) (quads : List Quad) (d : List Statement) → SameElements (map (quad_texts texts) quads) (map text_quad d) → (i : ℕ) → Contains (blank_ids texts quads) i → (b : Blank) × StandsIn d b × Names texts i b
 number_blank texts quads d same i n =
-    let q = from_flat_map (quad_blank_ids texts) quads i n in
+    let q = Contains-from_flat_map (quad_blank_ids texts) quads i n in
     let s = Contains-from_map text_quad d (quad_texts texts q.0) ((same (quad_texts texts q.0)).0 (Contains-map (quad_texts texts) quads q.0 q.1)) in
     let r = id_statement texts q.0 s.0 i (sym s.2) q.2 in
     (r.node, to_blanks_in d s.0 r.node s.1 r.within, r.names)
@@ -164,7 +144,7 @@ graph_known texts (Some id) i l m = id_known texts id i l m
 
 number_known : (texts : List (List ℕ)) (quads : List Quad) (i : ℕ) → All (IsKnown texts) quads → Contains (blank_ids texts quads) i → i < length texts
 number_known texts quads i a n =
-    let q = from_flat_map (quad_blank_ids texts) quads i n in
+    let q = Contains-from_flat_map (quad_blank_ids texts) quads i n in
     let k = All-contains (IsKnown texts) quads q.0 a q.1 in
     elim (Contains-append_cases (blank_id texts (q.0).subject) (blank_id texts (q.0).object ++ graph_blank_id texts (q.0).graph) i q.2) [
       | inl m ↦ id_known texts (q.0).subject i k.subject m
@@ -234,8 +214,8 @@ more_ids texts all set slice ids n same view each differ e l = record {
   where
     there : (i : ℕ) → Contains ids i → Contains (blank_ids texts all) i
     there i m =
-        let q = from_flat_map (quad_blank_ids texts) slice i ((each i).0 m) in
-        to_flat_map (quad_blank_ids texts) all q.0 i ((same q.0).0 (subst (λ (qs : List Quad). Contains qs q.0) view q.1)) q.2
+        let q = Contains-from_flat_map (quad_blank_ids texts) slice i ((each i).0 m) in
+        Contains-flat_map (quad_blank_ids texts) all q.0 i ((same q.0).0 (subst (λ (qs : List Quad). Contains qs q.0) view q.1)) q.2
 
 -- neither too many statements nor too many blank nodes
 pub is_set : (texts : List (List ℕ)) (all set slice : List Quad) (ids : List ℕ) (m n : ℕ) → SameElements set all → slice ≡ set → SameElements ids (blank_ids texts slice) → m ≡ length set → m ≤ 20000 → n ≡ length ids → n ≤ 4096 → IsSet texts all set

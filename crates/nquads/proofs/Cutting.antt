@@ -7,11 +7,11 @@ use Rattle.std.proofs.lemmas.Bool.{eqb-true, or_cases, ne_eqb, eq-eqb}
 use Rattle.std.proofs.lemmas.Option.{none-some, same_Some, cond_some}
 use Rattle.std.proofs.lemmas.List.{take_at, drop_at, append-nil, get_or_at, get_or_append_left}
 use Rattle.std.proofs.lemmas.List.Elements.{All-nil, All-cons, All-head, All-tail}
+use Rattle.base_types.proofs.Options.{and_then-Some, option_map-Some, took}
 use Rattle.nquads.specs.Terms.{is_label_character}
 use Rattle.nquads.specs.Reading.{is_gap, AreGaps, IsGap, IsEnd}
 use Rattle.nquads.specs.Internal.Parsing.{EndText, plain_end, language_end, datatype_end, PartText, iri_part, literal_part, blank_part, where_some, past, past_one_gap, past_gaps, past_gap, one_more, cut_at, cut_quoted, cut_iri, is_language_character, language_len, label_len, language_in, datatype_in, end_in, literal_in, blank_in, iri_in, part_in, is_comment, is_end}
 use Rattle.nquads.proofs.ReadingTexts.{Absent}
-use Rattle.nquads.proofs.Meant.{went_on, image_of, took}
 
 -- ---- one byte
 
@@ -71,7 +71,7 @@ pub record Gap (text rest : List ℕ) : Type 0 where
 pub past_gap-gives : (text rest : List ℕ) → past_gap text ≡ Some rest → Gap text rest
 past_gap-gives [] rest e = absurd (none-some rest e)
 past_gap-gives (c ∷ cs) rest e =
-    let m = image_of past_gaps (past_one_gap (c ∷ cs)) rest e in
+    let m = option_map-Some past_gaps (past_one_gap (c ∷ cs)) rest e in
     let s = cond_some (is_gap c) cs m.0 m.1 in
     let g = gaps_of cs in
     let same : past_gaps cs ≡ rest = ap past_gaps s.1 ∙ m.2 in
@@ -115,7 +115,7 @@ is_end-from text h =
 -- ---- cut at a byte
 
 one_more-gives : (b : ℕ) (o : Option (List ℕ × List ℕ)) (q : List ℕ × List ℕ) → one_more b o ≡ Some q → (r : List ℕ × List ℕ) × (o ≡ Some r) × ((b ∷ r.0, r.1) ≡ q)
-one_more-gives b o q e = image_of (λ (q : List ℕ × List ℕ). (b ∷ q.0, q.1)) o q e
+one_more-gives b o q e = option_map-Some (λ (q : List ℕ × List ℕ). (b ∷ q.0, q.1)) o q e
 
 abbrev joined : ℕ → List ℕ × List ℕ → List ℕ
 joined c q = q.0 ++ c ∷ q.1
@@ -145,7 +145,7 @@ in_brackets inner = codes "<" ++ inner ++ codes ">"
 -- an IRI and what follows it
 pub cut_iri-gives : (x : List ℕ) (q : List ℕ × List ℕ) → cut_iri x ≡ Some q → x ≡ in_brackets q.0 ++ q.1
 cut_iri-gives x q e =
-    let r = went_on (cut_at 62) (past 60 x) q e in
+    let r = and_then-Some (cut_at 62) (past 60 x) q e in
     past-gives 60 x r.0 r.1 ∙ ap (λ (t : List ℕ). 60 ∷ t) (cut_at-gives 62 r.0 q r.2 ∙ sym (append_assoc q.0 (62 ∷ []) q.1))
 
 -- and the other way round
@@ -212,8 +212,8 @@ part_and_rest q = written q.0 ++ q.1
 
 datatype_in-gives : (x : List ℕ) (q : EndText × List ℕ) → datatype_in x ≡ Some q → 94 ∷ x ≡ end_and_rest q
 datatype_in-gives x q e =
-    let m = image_of (λ (q : List ℕ × List ℕ). (datatype_end q.0, q.1)) (option_and_then cut_iri (past 94 x)) q e in
-    let r = went_on cut_iri (past 94 x) m.0 m.1 in
+    let m = option_map-Some (λ (q : List ℕ × List ℕ). (datatype_end q.0, q.1)) (option_and_then cut_iri (past 94 x)) q e in
+    let r = and_then-Some cut_iri (past 94 x) m.0 m.1 in
     ap (λ (t : List ℕ). 94 ∷ t) (past-gives 94 x r.0 r.1)
     ∙ ap (λ (t : List ℕ). 94 ∷ 94 ∷ t) (cut_iri-gives r.0 m.0 r.2)
     ∙ ap end_and_rest m.2
@@ -236,8 +236,8 @@ literal_shape inner end r = simp append_assoc
 
 literal_in-gives : (x : List ℕ) (q : PartText × List ℕ) → literal_in x ≡ Some q → 34 ∷ x ≡ part_and_rest q
 literal_in-gives x q e =
-    let r = went_on (λ (q : List ℕ × List ℕ). option_map (λ (x : EndText × List ℕ). (literal_part q.0 x.0, x.1)) (end_in q.1)) (cut_quoted false x) q e in
-    let m = image_of (λ (x : EndText × List ℕ). (literal_part r.0.0 x.0, x.1)) (end_in r.0.1) q r.2 in
+    let r = and_then-Some (λ (q : List ℕ × List ℕ). option_map (λ (x : EndText × List ℕ). (literal_part q.0 x.0, x.1)) (end_in q.1)) (cut_quoted false x) q e in
+    let m = option_map-Some (λ (x : EndText × List ℕ). (literal_part r.0.0 x.0, x.1)) (end_in r.0.1) q r.2 in
     ap (λ (t : List ℕ). 34 ∷ t) (cut_quoted-gives false x r.0 r.1)
     ∙ ap (λ (t : List ℕ). 34 ∷ (r.0.0 ++ 34 ∷ t)) (end_in-gives r.0.1 m.0 m.1)
     ∙ sym (literal_shape r.0.0 (written_end m.0.0) m.0.1)
@@ -245,14 +245,14 @@ literal_in-gives x q e =
 
 blank_in-gives : (x : List ℕ) (q : PartText × List ℕ) → blank_in x ≡ Some q → 95 ∷ x ≡ part_and_rest q
 blank_in-gives x q e =
-    let m = image_of (λ (rest : List ℕ). (blank_part (take (label_len rest) rest), drop (label_len rest) rest)) (past 58 x) q e in
+    let m = option_map-Some (λ (rest : List ℕ). (blank_part (take (label_len rest) rest), drop (label_len rest) rest)) (past 58 x) q e in
     ap (λ (t : List ℕ). 95 ∷ t) (past-gives 58 x m.0 m.1)
     ∙ ap (λ (t : List ℕ). 95 ∷ 58 ∷ t) (sym (take-append-drop (label_len m.0) m.0))
     ∙ ap part_and_rest m.2
 
 iri_in-gives : (x : List ℕ) (q : PartText × List ℕ) → iri_in x ≡ Some q → x ≡ part_and_rest q
 iri_in-gives x q e =
-    let m = image_of (λ (q : List ℕ × List ℕ). (iri_part q.0, q.1)) (cut_iri x) q e in
+    let m = option_map-Some (λ (q : List ℕ × List ℕ). (iri_part q.0, q.1)) (cut_iri x) q e in
     cut_iri-gives x m.0 m.1 ∙ ap part_and_rest m.2
 
 -- a part and what follows it

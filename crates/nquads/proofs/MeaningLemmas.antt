@@ -10,11 +10,12 @@ use Rattle.std.proofs.lemmas.Str.{IsCharBoundary-start, IsCharBoundary-after_asc
 use native.Mathlib.Nat.{pow-le-pow_right}
 use lib.Utf8.{encode}
 use Rattle.base_types.proofs.Utf8.{encode-wide, encode-narrow}
+use Rattle.base_types.proofs.Options.{and_then-Some, took}
 use Rattle.nquads.specs.Terms.{is_digit}
 use Rattle.nquads.specs.Escapes.{hex_value, hex_number}
 use Rattle.nquads.specs.Internal.Meaning.{numbered, with_size, escape_in, meant, seen_character, behind_escape, behind, MeansFirst}
 use Rattle.nquads.specs.Internal.Parsing.{past}
-use Rattle.nquads.proofs.Meant.{went_on, took, raw_front, escaped_front}
+use Rattle.nquads.proofs.Meant.{raw_front, escaped_front}
 use Rattle.nquads.proofs.Cutting.{past-gives}
 
 -- ---- hexadecimal digits
@@ -42,7 +43,7 @@ hex_value-small c v e =
 hex_ascii : (high : ℕ) (digits : List ℕ) (k : ℕ) → hex_number high digits ≡ Some k → All (λ c. c < 128) digits
 hex_ascii high [] k e = All-nil (λ c. c < 128)
 hex_ascii high (d ∷ ds) k e =
-    let r = went_on (λ (value : ℕ). hex_number (16 * high + value) ds) (hex_value d) k e in
+    let r = and_then-Some (λ (value : ℕ). hex_number (16 * high + value) ds) (hex_value d) k e in
     All-cons (λ c. c < 128) d ds (hex_value-small d r.0 r.1) (hex_ascii (16 * high + r.0) ds k r.2)
 
 -- a text may be cut behind such digits

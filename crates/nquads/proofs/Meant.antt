@@ -1,6 +1,5 @@
 -- What a text with escapes means: the function that reads it and the pieces that it is made of say the same.
 use Rattle.std.proofs.Common.{◌≡◌, ◌≢◌, ℕ, zero, suc, ◌<◌, ◌≤◌, List, [], ◌∷◌, ◌++◌, length, take, drop, Bool, true, false, cond, ◌==◌, ◌||◌, nat_le, All, Option, Some, None, option_map, option_and_then, encode_utf8, flat_map, refl, sym, ap, ◌∙◌, subst, inl, inr, arith, take-append-drop}
-use Rattle.std.specs.Prelude.{◌⊎◌}
 use Rattle.std.proofs.lemmas.Bool.{eqb-true, eqb-false, leb-true, le-leb, or_cases, ne_eqb}
 use Rattle.std.proofs.lemmas.Option.{none-some, same_Some, cond_some}
 use Rattle.std.proofs.lemmas.List.{take_at, drop_at}
@@ -8,25 +7,11 @@ use Rattle.std.proofs.lemmas.List.Elements.{All-nil, All-cons, All-head, All-tai
 use Rattle.std.proofs.lemmas.Str.{encode_ascii}
 use Rattle.std.specs.Char.{IsScalar}
 use lib.Utf8.{scalar}
+use Rattle.base_types.proofs.Options.{and_then-Some, option_map-Some, took}
 use Rattle.nquads.specs.Escapes.{hex_number, IsUchar, named_escape, Piece, IsRaw, IsEchar, IsPiece, Writes}
 use Rattle.nquads.specs.Internal.Meaning.{only_if, scalar_only, numbered, with_size, letter_escape, escape_in, meant_past, meant}
 
--- ---- options and tests
-
--- a chain that gave something: each step did
-pub went_on : {X Y : Type 0} (f : X → Option Y) (o : Option X) (y : Y) → option_and_then f o ≡ Some y → (x : X) × (o ≡ Some x) × (f x ≡ Some y)
-went_on f (Some x) y e = (x, refl, e)
-went_on f None y e = absurd (none-some y e)
-
--- an image of something
-pub image_of : {X Y : Type 0} (f : X → Y) (o : Option X) (y : Y) → option_map f o ≡ Some y → (x : X) × (o ≡ Some x) × (f x ≡ y)
-image_of f (Some x) y e = (x, refl, same_Some (f x) y e)
-image_of f None y e = absurd (none-some y e)
-
--- which branch a test took
-pub took : {X : Type 0} (b : Bool) (x y z : X) → cond b x y ≡ z → ((b ≡ true) × (x ≡ z)) ⊎ ((b ≡ false) × (y ≡ z))
-took true x y z e = inl (refl, e)
-took false x y z e = inr (refl, e)
+-- ---- tests
 
 -- the value of a test that passed
 pub passed : {X : Type 0} (b : Bool) (x y : X) → only_if b x ≡ Some y → (b ≡ true) × (x ≡ y)
@@ -49,7 +34,7 @@ Writes-cons quoted p written text i w = record {
 
 numbered_cases : (b : Bool) (o : Option ℕ) (k : ℕ) → cond b (option_and_then scalar_only o) None ≡ Some k → (b ≡ true) × (o ≡ Some k) × (scalar k ≡ true)
 numbered_cases true o k e =
-    let r = went_on scalar_only o k e in
+    let r = and_then-Some scalar_only o k e in
     let s = passed (scalar r.0) r.0 k r.2 in
     (refl, r.1 ∙ ap (λ (z : ℕ). Some z) s.1, subst (λ (z : ℕ). scalar z ≡ true) s.1 s.0)
 numbered_cases false o k e = absurd (none-some k e)
@@ -134,18 +119,18 @@ escape_in-gives quoted [] x e = absurd (none-some x e)
 escape_in-gives quoted (c ∷ cs) x e =
     elim (took (c == 117) (with_size 5 (numbered 4 cs)) (cond (c == 85) (with_size 9 (numbered 8 cs)) (with_size 1 (letter_escape quoted c))) (Some x) e) [
       | inl p ↦
-          let r = image_of (λ (k : ℕ). (k, 5)) (numbered 4 cs) x p.1 in
+          let r = option_map-Some (λ (k : ℕ). (k, 5)) (numbered 4 cs) x p.1 in
           subst (λ (z : ℕ × ℕ). IsPiece quoted (escape_piece (c ∷ cs) z)) r.2
           (subst (λ (z : ℕ). IsPiece quoted (escape_piece (z ∷ cs) (r.0, 5))) (sym (eqb-true c 117 p.0))
           (by_number quoted (92 ∷ 117 ∷ take 4 cs) r.0 (short_number cs r.0 r.1)))
       | inr p ↦ elim (took (c == 85) (with_size 9 (numbered 8 cs)) (with_size 1 (letter_escape quoted c)) (Some x) p.1) [
         | inl q ↦
-            let r = image_of (λ (k : ℕ). (k, 9)) (numbered 8 cs) x q.1 in
+            let r = option_map-Some (λ (k : ℕ). (k, 9)) (numbered 8 cs) x q.1 in
             subst (λ (z : ℕ × ℕ). IsPiece quoted (escape_piece (c ∷ cs) z)) r.2
             (subst (λ (z : ℕ). IsPiece quoted (escape_piece (z ∷ cs) (r.0, 9))) (sym (eqb-true c 85 q.0))
             (by_number quoted (92 ∷ 85 ∷ take 8 cs) r.0 (long_number cs r.0 r.1)))
         | inr q ↦
-            let r = image_of (λ (k : ℕ). (k, 1)) (letter_escape quoted c) x q.1 in
+            let r = option_map-Some (λ (k : ℕ). (k, 1)) (letter_escape quoted c) x q.1 in
             subst (λ (z : ℕ × ℕ). IsPiece quoted (escape_piece (c ∷ cs) z)) r.2 (by_letter quoted c cs r.0 r.1)
       ]
     ]
@@ -172,13 +157,13 @@ meant_past-gives quoted (suc n) (c ∷ cs) t e = meant_past-gives quoted n cs t 
 meant_past-gives quoted zero (c ∷ cs) t e =
     elim (took (c == 92) (option_and_then (λ (x : ℕ × ℕ). option_map (λ (text : List ℕ). encode_utf8 x.0 ++ text) (meant_past quoted x.1 cs)) (escape_in quoted cs)) (cond (c == 34) None (option_map (λ (text : List ℕ). c ∷ text) (meant_past quoted zero cs))) (Some t) e) [
       | inl p ↦
-          let r = went_on (λ (x : ℕ × ℕ). option_map (λ (text : List ℕ). encode_utf8 x.0 ++ text) (meant_past quoted x.1 cs)) (escape_in quoted cs) t p.1 in
-          let m = image_of (λ (text : List ℕ). encode_utf8 r.0.0 ++ text) (meant_past quoted r.0.1 cs) t r.2 in
+          let r = and_then-Some (λ (x : ℕ × ℕ). option_map (λ (text : List ℕ). encode_utf8 x.0 ++ text) (meant_past quoted x.1 cs)) (escape_in quoted cs) t p.1 in
+          let m = option_map-Some (λ (text : List ℕ). encode_utf8 r.0.0 ++ text) (meant_past quoted r.0.1 cs) t r.2 in
           escaped_more quoted c cs r.0 m.0 t p.0 r.1 (meant_past-gives quoted r.0.1 cs m.0 m.1) m.2
       | inr p ↦ elim (took (c == 34) None (option_map (λ (text : List ℕ). c ∷ text) (meant_past quoted zero cs)) (Some t) p.1) [
         | inl q ↦ absurd (none-some t q.1)
         | inr q ↦
-            let m = image_of (λ (text : List ℕ). c ∷ text) (meant_past quoted zero cs) t q.1 in
+            let m = option_map-Some (λ (text : List ℕ). c ∷ text) (meant_past quoted zero cs) t q.1 in
             raw_more quoted c cs m.0 t p.0 q.0 (meant_past-gives quoted zero cs m.0 m.1) m.2
       ]
     ]

@@ -7,6 +7,7 @@ use Rattle.std.proofs.lemmas.Option.{none-some, same_Some, cond_some}
 use Rattle.std.proofs.lemmas.List.Elements.{All-nil, All-cons, All-head, All-tail, All-contains, Contains-append_left, Contains-append_right}
 use Rattle.std.proofs.lemmas.List.Sums.{fails_before_first}
 use Rattle.std.proofs.lemmas.Slice.Eq.{bytes_eq-Decides}
+use Rattle.base_types.proofs.Options.{and_then-Some, option_map-Some, took}
 use Rattle.iri_ref.specs.Components.{IsAbsolute}
 use Rattle.iri_ref.specs.Characters.{is_forbidden}
 use Rattle.nquads.specs.Terms.{by_label, Blank, Term, iri, literal, blank, HasIriCharacters, IsTerm, IsResource, IsLabel, IsLanguage, is_letter, is_digit, xsd_string, rdf_lang_string}
@@ -17,7 +18,7 @@ use Rattle.nquads.specs.Internal.Meaning.{only_if, meant, holds_noncharacter, is
 use Rattle.nquads.specs.Internal.Parsing.{EndText, plain_end, language_end, datatype_end, PartText, iri_part, literal_part, blank_part, one_more, cut_quoted, is_language_character, iri_of, typed_literal, with_end, literal_of, term_of, resource_of}
 use Rattle.nquads.proofs.ReadingTexts.{Absent, Absent-append}
 use Rattle.nquads.proofs.ReadingElements.{All-from_contains}
-use Rattle.nquads.proofs.Meant.{went_on, image_of, took, passed, meant-gives, meant-from}
+use Rattle.nquads.proofs.Meant.{passed, meant-gives, meant-from}
 use Rattle.nquads.proofs.Readable.{is_iri-gives, is_iri-from, is_language-gives, is_language-from, is_label-gives, is_label-from, none_held, none_found}
 use Rattle.nquads.proofs.Cutting.{in_brackets, written_end, written, IsQuoted, IsClosedEnd, IsClosed}
 
@@ -70,7 +71,7 @@ pub record GivesIri (inner text : List ℕ) : Type 0 where
 -- what is given is written so
 pub iri_of-gives : (inner text : List ℕ) → iri_of inner ≡ Some text → GivesIri inner text
 iri_of-gives inner text e =
-    let r = went_on (λ (z : List ℕ). only_if (is_iri z) z) (meant false inner) text e in
+    let r = and_then-Some (λ (z : List ℕ). only_if (is_iri z) z) (meant false inner) text e in
     let s = passed (is_iri r.0) r.0 text r.2 in
     let m = is_iri-gives r.0 s.0 in
     subst (GivesIri inner) s.1 (record { writes = meant-gives false inner r.0 r.1; absolute = m.0; clean = m.1 })
@@ -87,7 +88,7 @@ WritesIri-from inner text g = record { inner = inner; is = refl; writes = g.writ
 pub hex_absent : (c : ℕ) → hex_value c ≡ None → (high : ℕ) (digits : List ℕ) (k : ℕ) → hex_number high digits ≡ Some k → Absent c digits
 hex_absent c n high [] k e = tt
 hex_absent c n high (d ∷ ds) k e =
-    let r = went_on (λ (value : ℕ). hex_number (16 * high + value) ds) (hex_value d) k e in (
+    let r = and_then-Some (λ (value : ℕ). hex_number (16 * high + value) ds) (hex_value d) k e in (
       (λ (s : c ≡ d). none-some r.0 (sym n ∙ ap hex_value s ∙ r.1)),
       hex_absent c n (16 * high + r.0) ds k r.2,
     )
@@ -257,7 +258,7 @@ with_end-gives inner (language_end tag) text t w n e =
       tagged = (refl, is_language-gives tag r.0);
     }
 with_end-gives inner (datatype_end named) text t w n e =
-    let r = went_on (typed_literal text) (iri_of named) t e in
+    let r = and_then-Some (typed_literal text) (iri_of named) t e in
     let g = iri_of-gives named r.0 r.1 in
     elim (took (bytes_eq r.0 rdf_lang_string) None (Some (literal text r.0 None)) (Some t) r.2) [
       | inl p ↦ absurd (none-some t p.1)
@@ -277,7 +278,7 @@ with_end-gives inner (datatype_end named) text t w n e =
 
 literal_of-gives : (inner : List ℕ) (end : EndText) (t : Term) → literal_of inner end ≡ Some t → GivesLiteral inner end t
 literal_of-gives inner end t e =
-    let r = went_on (λ (text : List ℕ). cond (holds_noncharacter text) None (with_end text end)) (meant true inner) t e in
+    let r = and_then-Some (λ (text : List ℕ). cond (holds_noncharacter text) None (with_end text end)) (meant true inner) t e in
     elim (took (holds_noncharacter r.0) None (with_end r.0 end) (Some t) r.2) [
       | inl p ↦ absurd (none-some t p.1)
       | inr p ↦ with_end-gives inner end r.0 t (meant-gives true inner r.0 r.1) (none_held r.0 p.0) p.1
@@ -320,7 +321,7 @@ pub record GivesTerm (text : List ℕ) (t : Term) : Type 0 where
 -- what a part means is written as the part
 pub term_of-gives : (p : PartText) (t : Term) → term_of p ≡ Some t → GivesTerm (written p) t
 term_of-gives (iri_part inner) t e =
-    let m = image_of iri (iri_of inner) t e in
+    let m = option_map-Some iri (iri_of inner) t e in
     let g = iri_of-gives inner m.0 m.1 in
     subst (GivesTerm (in_brackets inner)) m.2 (record { writes = WritesIri-from inner m.0 g; readable = iri_readable inner m.0 g })
 term_of-gives (literal_part inner end) t e =
@@ -337,7 +338,7 @@ term_of-gives (blank_part label) t e =
 -- a resource is a term that is one
 pub resource_of-gives : (p : PartText) (t : Term) → resource_of p ≡ Some t → (term_of p ≡ Some t) × IsResource t
 resource_of-gives (iri_part inner) t e =
-    let m = image_of iri (iri_of inner) t e in
+    let m = option_map-Some iri (iri_of inner) t e in
     let g = iri_of-gives inner m.0 m.1 in
     (e, subst IsResource m.2 (iri_characters m.0 g.absolute))
 resource_of-gives (literal_part inner end) t e = absurd (none-some t e)

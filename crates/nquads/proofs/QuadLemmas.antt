@@ -7,13 +7,14 @@ use Rattle.std.specs.Option.{option_cmp}
 use Rattle.std.specs.Cmp.{IsTotalOrder}
 use Rattle.std.specs.Cmp.Lexicographic.{slice_cmp}
 use Rattle.std.specs.Ordering.{nat_cmp, ordering_then, eq_by_cmp}
-use Rattle.std.specs.declared.cmp.Ordering.TheVariants.{Less, Equal, Greater}
+use Rattle.std.specs.declared.cmp.Ordering.TheVariants.{Equal}
 use Rattle.std.proofs.lemmas.Map.Lookups.{exact_bytes}
 use Rattle.std.proofs.lemmas.List.Filters.{dedup_is}
 use Rattle.std.proofs.lemmas.List.Kept.{IsStrictlySortedBy-dedup}
 use Rattle.base_types.specs.Sets.{SameElements, AllDiffer}
 use Rattle.base_types.proofs.Lists.{AllDiffer-strictly_sorted}
 use Rattle.base_types.proofs.Rising.{SameElements-dedup}
+use Rattle.base_types.proofs.Searching.{both_equal}
 use Rattle.nquads.specs.declared.quads.TextQuad.{TextQuad}
 use Rattle.nquads.specs.contracts.quads.TextQuadOrd.TheImpl.Laws.{total-law}
 
@@ -27,11 +28,6 @@ quad_cmp x y = ordering_then (text_cmp x.subject y.subject) (ordering_then (text
 quad_total : IsTotalOrder quad_cmp
 quad_total = total-law
 
-first_equal : (o p : Ordering) → ordering_then o p ≡ Equal → (o ≡ Equal) × (p ≡ Equal)
-first_equal Less p e = absurd (cc)
-first_equal Equal p e = (refl, e)
-first_equal Greater p e = absurd (cc)
-
 graphs_exact : (g h : Option (List ℕ)) → option_cmp text_cmp g h ≡ Equal → g ≡ h
 graphs_exact None None e = refl
 graphs_exact None (Some h) e = absurd (cc)
@@ -40,9 +36,9 @@ graphs_exact (Some g) (Some h) e = ap Some (exact_bytes g h e)
 
 quad_exact : (x y : TextQuad) → quad_cmp x y ≡ Equal → x ≡ y
 quad_exact x y e =
-    let a = first_equal (text_cmp x.subject y.subject) _ e in
-    let b = first_equal (text_cmp x.predicate y.predicate) _ a.1 in
-    let d = first_equal (text_cmp x.object y.object) _ b.1 in
+    let a = both_equal (text_cmp x.subject y.subject) _ e in
+    let b = both_equal (text_cmp x.predicate y.predicate) _ a.1 in
+    let d = both_equal (text_cmp x.object y.object) _ b.1 in
     let s = exact_bytes x.subject y.subject a.0 in
     let p = exact_bytes x.predicate y.predicate b.0 in
     let o = exact_bytes x.object y.object d.0 in

@@ -1,6 +1,6 @@
 -- A canonical line says the statement whose line it is.
 use Rattle.std.proofs.Common.{◌≡◌, ◌≢◌, ℕ, ◌+◌, ◌-◌, ◌*◌, ◌/◌, ◌%◌, ◌<◌, ◌≤◌, List, [], ◌∷◌, ◌++◌, Bool, true, false, cond, ◌==◌, ◌||◌, nat_lt, Option, Some, None, bytes_eq, flat_map, refl, sym, ap, ◌∙◌, subst, inl, inr, arith}
-use Rattle.std.proofs.lemmas.Bool.{eqb-true, eqb-false, ltb-true, ltb-false, or_cases, true≢false, le-leb, lt-leb}
+use Rattle.std.proofs.lemmas.Bool.{eqb-true, eqb-false, ltb-true, ltb-false, true≢false, le-leb, lt-leb}
 use Rattle.std.proofs.lemmas.Slice.Eq.{bytes_eq-Decides}
 use Rattle.std.proofs.lemmas.Str.{encode_ascii}
 use Rattle.std.proofs.lemmas.List.Elements.{All-head, All-tail}
@@ -11,26 +11,25 @@ use Rattle.nquads.specs.Reading.{WritesIri, WritesEnd, WritesTerm}
 use Rattle.nquads.specs.Spelling.{hex_digit, hex_escape, escape, iri_text, literal_end}
 use Rattle.nquads.specs.Lines.{term_text}
 use Rattle.nquads.proofs.ReadingTexts.{Absent, Absent-append}
+use Rattle.nquads.proofs.ReadingEscapes.{small_number, quoted_absent}
 use Rattle.nquads.proofs.ReadingTerms.{iri_absent, label_absent, language_absent}
 use Rattle.nquads.proofs.Meant.{Writes-nil, Writes-cons}
 use Rattle.nquads.proofs.PartTerms.{HasLabelName, IsReadableTerm}
 
 -- ---- an escaped byte
 
--- how one byte is written, without LF and CR
+-- how one byte is written, without CR
 pub record Escaped (c : ℕ) (w : List ℕ) : Type 0 where
   pub piece : IsPiece true (record { written = w; meant = c ∷ [] })
-  pub feed : Absent 10 w
   pub return : Absent 13 w
 
 if_escaped : (c : ℕ) (t : Bool) (x y : List ℕ) → (t ≡ true → Escaped c x) → (t ≡ false → Escaped c y) → Escaped c (cond t x y)
 if_escaped c true x y p q = p refl
 if_escaped c false x y p q = q refl
 
-letter_escaped : (c k m : ℕ) → m ≢ 10 → m ≢ 13 → named_escape m ≡ Some k → (c == k) ≡ true → Escaped c (92 ∷ m ∷ [])
-letter_escaped c k m f r n e = record {
+letter_escaped : (c k m : ℕ) → m ≢ 13 → named_escape m ≡ Some k → (c == k) ≡ true → Escaped c (92 ∷ m ∷ [])
+letter_escaped c k m r n e = record {
   piece = inr (inl (refl, record { letter = m; character = c; written = refl; meant = refl; stands_for = n ∙ ap (λ (z : ℕ). Some z) (sym (eqb-true c k e)) }));
-  feed = ((omega arith), ((λ s. f (sym s)), tt));
   return = ((omega arith), ((λ s. r (sym s)), tt));
 }
 
@@ -76,40 +75,31 @@ number_escaped c l =
         };
         meant = sym (encode_ascii c l);
       }));
-      feed = ((omega arith), ((omega arith), ((omega arith), ((omega arith), (digit_apart (c / 16) 10 high (omega arith), (digit_apart (c % 16) 10 low (omega arith), tt))))));
       return = ((omega arith), ((omega arith), ((omega arith), ((omega arith), (digit_apart (c / 16) 13 high (omega arith), (digit_apart (c % 16) 13 low (omega arith), tt))))));
     }
 
-itself_escaped : (c : ℕ) → (c == 34) ≡ false → (c == 92) ≡ false → (c == 10) ≡ false → (c == 13) ≡ false → Escaped c (c ∷ [])
-itself_escaped c q b f r = record {
+itself_escaped : (c : ℕ) → (c == 34) ≡ false → (c == 92) ≡ false → (c == 13) ≡ false → Escaped c (c ∷ [])
+itself_escaped c q b r = record {
   piece = inl (record { byte = c; written = refl; meant = refl; plain = (eqb-false c 34 q, eqb-false c 92 b) });
-  feed = ((λ s. eqb-false c 10 f (sym s)), tt);
   return = ((λ s. eqb-false c 13 r (sym s)), tt);
 }
-
-small : (c : ℕ) → (nat_lt c 32 || (c == 127)) ≡ true → c < 128
-small c e = elim (or_cases (nat_lt c 32) (c == 127) e) [ inl p ↦ omega (arith, ltb-true c 32 p) | inr p ↦ omega (arith, eqb-true c 127 p) ]
 
 -- each byte is written as one piece
 pub escaped : (c : ℕ) → Escaped c (escape c)
 escaped c =
-    if_escaped c (c == 8) _ _ (letter_escaped c 8 98 (omega arith) (omega arith) refl) (λ n1.
-    if_escaped c (c == 9) _ _ (letter_escaped c 9 116 (omega arith) (omega arith) refl) (λ n2.
-    if_escaped c (c == 10) _ _ (letter_escaped c 10 110 (omega arith) (omega arith) refl) (λ n3.
-    if_escaped c (c == 12) _ _ (letter_escaped c 12 102 (omega arith) (omega arith) refl) (λ n4.
-    if_escaped c (c == 13) _ _ (letter_escaped c 13 114 (omega arith) (omega arith) refl) (λ n5.
-    if_escaped c (c == 34) _ _ (letter_escaped c 34 34 (omega arith) (omega arith) refl) (λ n6.
-    if_escaped c (c == 92) _ _ (letter_escaped c 92 92 (omega arith) (omega arith) refl) (λ n7.
-    if_escaped c (nat_lt c 32 || (c == 127)) _ _ (λ e. number_escaped c (small c e)) (λ n8. itself_escaped c n6 n7 n3 n5))))))))
+    if_escaped c (c == 8) _ _ (letter_escaped c 8 98 (omega arith) refl) (λ n1.
+    if_escaped c (c == 9) _ _ (letter_escaped c 9 116 (omega arith) refl) (λ n2.
+    if_escaped c (c == 10) _ _ (letter_escaped c 10 110 (omega arith) refl) (λ n3.
+    if_escaped c (c == 12) _ _ (letter_escaped c 12 102 (omega arith) refl) (λ n4.
+    if_escaped c (c == 13) _ _ (letter_escaped c 13 114 (omega arith) refl) (λ n5.
+    if_escaped c (c == 34) _ _ (letter_escaped c 34 34 (omega arith) refl) (λ n6.
+    if_escaped c (c == 92) _ _ (letter_escaped c 92 92 (omega arith) refl) (λ n7.
+    if_escaped c (nat_lt c 32 || (c == 127)) _ _ (λ e. number_escaped c (small_number c e)) (λ n8. itself_escaped c n6 n7 n5))))))))
 
 -- a text with its escapes
 pub text_writes : (text : List ℕ) → Writes true (flat_map escape text) text
 text_writes [] = Writes-nil true
 text_writes (c ∷ cs) = Writes-cons true (record { written = escape c; meant = c ∷ [] }) (flat_map escape cs) cs (escaped c).piece (text_writes cs)
-
-feeds_absent : (text : List ℕ) → Absent 10 (flat_map escape text)
-feeds_absent [] = tt
-feeds_absent (c ∷ cs) = Absent-append 10 (escape c) (flat_map escape cs) (escaped c).feed (feeds_absent cs)
 
 returns_absent : (text : List ℕ) → Absent 13 (flat_map escape text)
 returns_absent [] = tt
@@ -200,7 +190,7 @@ term_on_line (iri text) r = iri_on_line text r.term
 term_on_line (literal text datatype language) r =
     joined_line (34 ∷ flat_map escape text ++ 34 ∷ []) (literal_end datatype language)
     (joined_line (34 ∷ flat_map escape text) (34 ∷ [])
-    (joined_line (34 ∷ []) (flat_map escape text) (one_byte 34 refl refl) (record { feed = feeds_absent text; return = returns_absent text }))
+    (joined_line (34 ∷ []) (flat_map escape text) (one_byte 34 refl refl) (record { feed = quoted_absent text; return = returns_absent text }))
     (one_byte 34 refl refl))
     (end_on_line text datatype language r.term)
 term_on_line (blank b) r =

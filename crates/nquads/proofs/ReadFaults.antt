@@ -1,13 +1,9 @@
 -- Why a text is not read, by what was read of it.
-use Rattle.std.proofs.Common.{◌≡◌, ℕ, ◌-◌, ◌<◌, List, [], ◌∷◌, ◌++◌, length, map, Contains, Option, Some, None, IfSome, option_map, refl, sym, ap, ◌∙◌, subst, inl, inr, arith}
-use Rattle.std.proofs.lemmas.Option.{none-some, same_Some}
+use Rattle.std.proofs.Common.{◌≡◌, ℕ, ◌-◌, List, [], ◌∷◌, ◌++◌, length, map, Contains, Some, None, sym, ap, ◌∙◌, subst, inl, inr, arith}
 use Rattle.std.proofs.lemmas.List.Elements.{All-contains, Contains-append_cases}
-use Rattle.base_types.specs.Sets.{AllDiffer}
 use Rattle.base_types.proofs.Lists.{Contains-nil, Contains-cons_cases, Contains-map, Contains-from_map}
-use Rattle.term_store.specs.Store.{text_at, Grows}
-use Rattle.term_store.specs.declared.store.TermId.{TermId}
+use Rattle.term_store.specs.Store.{Grows}
 use Rattle.term_store.specs.declared.statements.Quad.{Quad}
-use Rattle.term_store.proofs.StoreLemmas.{ids-one}
 use Rattle.nquads.specs.Terms.{Statement}
 use Rattle.nquads.specs.Spelling.{text_quad}
 use Rattle.nquads.specs.Stored.{quad_texts, IsKnown}
@@ -21,23 +17,7 @@ use Rattle.nquads.proofs.ReadingElements.{All-from_contains}
 use Rattle.nquads.proofs.Choices.{choose, zip_length, zip_differ, zip_all}
 use Rattle.nquads.proofs.TextLines.{line_here}
 use Rattle.nquads.proofs.HasRead.{HasRead, texts_kept}
-
--- ---- numbers of one text are one
-
-graph_one : (texts : List (List ℕ)) → AllDiffer texts → (g h : Option TermId) → IfSome g (λ g. g.index < length texts) → IfSome h (λ g. g.index < length texts) → option_map (text_at texts) g ≡ option_map (text_at texts) h → g ≡ h
-graph_one texts d None None a b e = refl
-graph_one texts d None (Some h) a b e = absurd (none-some (text_at texts h) e)
-graph_one texts d (Some g) None a b e = absurd (none-some (text_at texts g) (sym e))
-graph_one texts d (Some g) (Some h) a b e = ap (λ (t : TermId). Some t) (ids-one texts d g h a b (same_Some (text_at texts g) (text_at texts h) e))
-
--- two statements with the same texts are one
-pub quads_one : (texts : List (List ℕ)) → AllDiffer texts → (p q : Quad) → IsKnown texts p → IsKnown texts q → quad_texts texts p ≡ quad_texts texts q → p ≡ q
-quads_one texts d p q k l e =
-    let a : p.subject ≡ q.subject = ids-one texts d p.subject q.subject k.subject l.subject (ap (λ (t : TextQuad). t.subject) e) in
-    let b : p.predicate ≡ q.predicate = ids-one texts d p.predicate q.predicate k.predicate l.predicate (ap (λ (t : TextQuad). t.predicate) e) in
-    let c : p.object ≡ q.object = ids-one texts d p.object q.object k.object l.object (ap (λ (t : TextQuad). t.object) e) in
-    let g : p.graph ≡ q.graph = graph_one texts d p.graph q.graph k.graph l.graph (ap (λ (t : TextQuad). t.graph) e) in
-    λ i. record { subject = a i; predicate = b i; object = c i; graph = g i }
+use Rattle.nquads.proofs.StoredLemmas.{one_quad}
 
 -- ---- too many statements
 
@@ -67,7 +47,7 @@ too_many bytes rest old new quads h g t =
     let many = m.more in
     record {
       some = c.0;
-      differ = zip_differ (IsSaidBy bytes new) (λ p q s a b. quads_one new t.differ p q a.0 b.0 (sym a.1 ∙ b.1)) m.some c.0 c.1 m.differ;
+      differ = zip_differ (IsSaidBy bytes new) (λ p q s a b. one_quad new t.differ p q a.0 b.0 (sym a.1 ∙ b.1)) m.some c.0 c.1 m.differ;
       more = omega (arith, sizes, many);
       stand = zip_all (IsSaidBy bytes new) (StandsInText bytes) (λ q s a. a.2) m.some c.0 c.1;
     }

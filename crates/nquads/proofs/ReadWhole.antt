@@ -14,7 +14,7 @@ use Rattle.nquads.specs.Internal.Storing.{HasMoreQuads, IsSet, IsSetFault, Keeps
 use Rattle.nquads.proofs.ReadingElements.{All-from_contains}
 use Rattle.nquads.proofs.Choices.{choose, zip_length, zip_differ, zip_all}
 use Rattle.nquads.proofs.StoringLemmas.{All-same_elements}
-use Rattle.nquads.proofs.ReadFaults.{quads_one}
+use Rattle.nquads.proofs.StoredLemmas.{one_quad}
 use Rattle.nquads.proofs.CountedBlanks.{few_blanks, more_blanks}
 
 -- a text that is kept, as a set
@@ -47,7 +47,7 @@ more_statements bytes texts all d k m =
     let many = m.more in
     record {
       some = c.0;
-      differ = zip_differ (IsSaid bytes texts) (λ p q s a b. quads_one texts d p q a.0 b.0 (sym a.1 ∙ b.1)) m.some c.0 c.1 m.differ;
+      differ = zip_differ (IsSaid bytes texts) (λ p q s a b. one_quad texts d p q a.0 b.0 (sym a.1 ∙ b.1)) m.some c.0 c.1 m.differ;
       more = omega (arith, size, many);
       stand = zip_all (IsSaid bytes texts) (StandsInText bytes) (λ q s a. a.2) m.some c.0 c.1;
     }

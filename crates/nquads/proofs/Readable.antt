@@ -1,15 +1,15 @@
 -- Which texts may be read: the tests of IRIs, languages and labels, and what they test.
-use Rattle.std.proofs.Common.{◌≡◌, ◌≢◌, ℕ, suc, ◌-◌, List, [], ◌∷◌, ◌++◌, length, Bool, true, false, not, ◌==◌, ◌||◌, ◌&&◌, All, Option, Some, None, is_none, slice_index, flat_map, codes, refl, sym, ap, ◌∙◌, subst, inl, inr, arith}
+use Rattle.std.proofs.Common.{◌≡◌, ◌≢◌, ℕ, suc, ◌-◌, List, [], ◌∷◌, ◌++◌, length, Bool, true, false, not, ◌==◌, ◌||◌, ◌&&◌, All, Option, None, is_none, slice_index, flat_map, codes, refl, sym, ap, ◌∙◌, subst, inl, inr, arith}
 use Rattle.std.specs.Prelude.{◌⊎◌}
 use Rattle.std.specs.List.{list_all}
 use Rattle.std.proofs.lemmas.Bool.{eqb-true, eqb-false, false≢true, true≢false, or_cases, or_parts, or_left, or_right, and_parts, and_from, ne_eqb, eq-eqb, not-true}
 use Rattle.std.proofs.lemmas.List.Elements.{All-nil, All-cons, All-head, All-tail, All-weaker}
+use Rattle.base_types.proofs.Options.{took, is_none-true}
 use Rattle.iri_ref.specs.Components.{IsAbsolute, has_scheme}
 use Rattle.iri_ref.specs.Characters.{first_forbidden}
 use Rattle.nquads.specs.Terms.{IsLanguage, IsLanguageGroup, IsLabel, is_letter, is_label_character}
 use Rattle.nquads.specs.Reading.{HoldsNoncharacter}
 use Rattle.nquads.specs.Internal.Meaning.{begins_noncharacter, holds_noncharacter, is_iri, is_group_character, language_rest, is_language, is_mark, is_label}
-use Rattle.nquads.proofs.Meant.{took}
 
 -- ---- U+FFFE and U+FFFF
 
@@ -67,10 +67,6 @@ none_found text n = go (holds_noncharacter text) refl
     go false e = refl
 
 -- ---- IRIs
-
-is_none-true : {X : Type 0} (o : Option X) → is_none o ≡ true → o ≡ None
-is_none-true None e = refl
-is_none-true (Some x) e = absurd (false≢true e)
 
 is_none-from : {X : Type 0} (o : Option X) → o ≡ None → is_none o ≡ true
 is_none-from o e = rw e refl

@@ -58,8 +58,9 @@ number_escape c r l =
 itself : (c : ℕ) (r : List ℕ) → (c == 92) ≡ false → read_byte ((c ∷ []) ++ r) ≡ (c, r)
 itself c r e = rw e refl
 
-small : (c : ℕ) → (nat_lt c 32 || (c == 127)) ≡ true → c < 128
-small c e = elim (or_cases (nat_lt c 32) (c == 127) e) [ inl p ↦ omega (arith, ltb-true c 32 p) | inr p ↦ omega (arith, eqb-true c 127 p) ]
+-- a byte that is written by its number is ASCII
+pub small_number : (c : ℕ) → (nat_lt c 32 || (c == 127)) ≡ true → c < 128
+small_number c e = elim (or_cases (nat_lt c 32) (c == 127) e) [ inl p ↦ omega (arith, ltb-true c 32 p) | inr p ↦ omega (arith, eqb-true c 127 p) ]
 
 -- the reader gives back the byte that was escaped
 pub read_byte-escape : (c : ℕ) (r : List ℕ) → read_byte (escape c ++ r) ≡ (c, r)
@@ -71,7 +72,7 @@ read_byte-escape c r =
     branch c (c == 13) _ _ r (letter_escape c 13 114 r refl) (λ n5.
     branch c (c == 34) _ _ r (letter_escape c 34 34 r refl) (λ n6.
     branch c (c == 92) _ _ r (letter_escape c 92 92 r refl) (λ n7.
-    branch c (nat_lt c 32 || (c == 127)) _ _ r (λ e. number_escape c r (small c e)) (λ n8. itself c r n7))))))))
+    branch c (nat_lt c 32 || (c == 127)) _ _ r (λ e. number_escape c r (small_number c e)) (λ n8. itself c r n7))))))))
 
 not_quote : (c : ℕ) (r u : List ℕ) → escape c ++ r ≡ 34 ∷ u → ⊥
 not_quote c r u e =

@@ -5,9 +5,9 @@ use Rattle.std.proofs.lemmas.Bool.{eqb-true, eqb-false, true≢false, or_cases}
 use Rattle.std.proofs.lemmas.Option.{none-some, same_Some}
 use Rattle.std.proofs.lemmas.List.{same_from_push}
 use Rattle.std.proofs.lemmas.List.Elements.{All-nil, All-cons, All-head, All-tail}
+use Rattle.base_types.proofs.Options.{took}
 use Rattle.nquads.specs.Reading.{is_line_end, BeginsLine, EndsLine, IsLineAt}
 use Rattle.nquads.specs.Internal.Lines.{first_line, line_tail, past_feed, past_line_end, after_line}
-use Rattle.nquads.proofs.Meant.{took}
 
 abbrev Inner : ℕ → Type 0
 Inner c = is_line_end c ≡ false

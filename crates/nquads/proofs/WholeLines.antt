@@ -5,6 +5,7 @@ use Rattle.std.specs.Prelude.{option_to_list}
 use Rattle.std.specs.Str.{IsUtf8}
 use Rattle.std.proofs.lemmas.Option.{same_Some}
 use Rattle.std.proofs.lemmas.List.Elements.{All-nil, All-cons, All-head, All-tail, All-append}
+use Rattle.base_types.proofs.Options.{and_then-Some, option_map-Some, took}
 use Rattle.iri_ref.specs.Components.{IsAbsolute}
 use Rattle.nquads.specs.Terms.{Term, Statement, IsResource}
 use Rattle.nquads.specs.Renaming.{blanks_of_term, blanks_of_graph}
@@ -13,7 +14,7 @@ use Rattle.nquads.specs.Internal.Meaning.{only_if}
 use Rattle.nquads.specs.Internal.Parsing.{PartText, iri_part, literal_part, blank_part, LineTexts, past, past_gaps, past_gap, cut_iri, part_in, graph_in, closing_in, is_comment, is_end, behind_object, behind_predicate, behind_subject, parts_in, iri_of, term_of, resource_of, graph_of, statement, statement_of, line_in}
 use Rattle.nquads.proofs.ReadingTerms.{IsTerm-from_resource}
 use Rattle.nquads.proofs.ReadingTexts.{Absent}
-use Rattle.nquads.proofs.Meant.{went_on, image_of, took, passed}
+use Rattle.nquads.proofs.Meant.{passed}
 use Rattle.nquads.proofs.Cutting.{past-gives, chose, past_gaps-append, gaps_of, past_gap-gives, past_gap-from, is_end-gives, is_end-from, in_brackets, cut_iri-gives, cut_iri-from, written, part_in-gives, part_in-from, IsClosed, Follows, gap_follows, dot_follows}
 use Rattle.nquads.proofs.PartTerms.{All-left, All-right, HasLabelName, IsClean, IsReadableTerm, iri_characters, iri_of-gives, iri_of-from, WritesIri-from, iri_closed, term_of-gives, resource_of-gives, PartOf, iri_given, part_of, resource_of-from}
 
@@ -66,9 +67,9 @@ closing_in-gives text q e =
     elim (chose (past 46 (past_gaps text)) (λ (end : List ℕ). Some (None, end)) (option_and_then graph_in (past_gap text)) (Some q) e) [
       | inl r ↦ subst (Closing text) (same_Some (None, r.0) q r.2) (only_dot text r.0 r.1)
       | inr r ↦
-          let g = went_on graph_in (past_gap text) q r.1 in
-          let s = went_on (λ (q : PartText × List ℕ). option_map (λ (end : List ℕ). (Some q.0, end)) (past 46 (past_gaps q.1))) (part_in g.0) q g.2 in
-          let m = image_of (λ (end : List ℕ). (Some s.0.0, end)) (past 46 (past_gaps s.0.1)) q s.2 in
+          let g = and_then-Some graph_in (past_gap text) q r.1 in
+          let s = and_then-Some (λ (q : PartText × List ℕ). option_map (λ (end : List ℕ). (Some q.0, end)) (past 46 (past_gaps q.1))) (part_in g.0) q g.2 in
+          let m = option_map-Some (λ (end : List ℕ). (Some s.0.0, end)) (past 46 (past_gaps s.0.1)) q s.2 in
           subst (Closing text) m.2 (with_graph text g.0 s.0 m.0 g.1 s.1 m.1)
     ]
 
@@ -108,12 +109,12 @@ line_texts subject predicate object graph = record { subject = subject; predicat
 steps_of : (line : List ℕ) (l : LineTexts) → parts_in line ≡ Some l → Steps line l
 unfolding parts_in
 steps_of line l e =
-    let s = went_on (λ (q : PartText × List ℕ). behind_subject q.0 q.1) (part_in (past_gaps line)) l e in
-    let a = went_on (λ (rest : List ℕ). option_and_then (λ (q : List ℕ × List ℕ). behind_predicate s.0.0 q.0 q.1) (cut_iri rest)) (past_gap s.0.1) l s.2 in
-    let p = went_on (λ (q : List ℕ × List ℕ). behind_predicate s.0.0 q.0 q.1) (cut_iri a.0) l a.2 in
-    let b = went_on (λ (rest : List ℕ). option_and_then (λ (q : PartText × List ℕ). behind_object s.0.0 p.0.0 q.0 q.1) (part_in rest)) (past_gap p.0.1) l p.2 in
-    let o = went_on (λ (q : PartText × List ℕ). behind_object s.0.0 p.0.0 q.0 q.1) (part_in b.0) l b.2 in
-    let q = went_on (λ (q : Option PartText × List ℕ). only_if (is_end q.1) (line_texts s.0.0 p.0.0 o.0.0 q.0)) (closing_in o.0.1) l o.2 in
+    let s = and_then-Some (λ (q : PartText × List ℕ). behind_subject q.0 q.1) (part_in (past_gaps line)) l e in
+    let a = and_then-Some (λ (rest : List ℕ). option_and_then (λ (q : List ℕ × List ℕ). behind_predicate s.0.0 q.0 q.1) (cut_iri rest)) (past_gap s.0.1) l s.2 in
+    let p = and_then-Some (λ (q : List ℕ × List ℕ). behind_predicate s.0.0 q.0 q.1) (cut_iri a.0) l a.2 in
+    let b = and_then-Some (λ (rest : List ℕ). option_and_then (λ (q : PartText × List ℕ). behind_object s.0.0 p.0.0 q.0 q.1) (part_in rest)) (past_gap p.0.1) l p.2 in
+    let o = and_then-Some (λ (q : PartText × List ℕ). behind_object s.0.0 p.0.0 q.0 q.1) (part_in b.0) l b.2 in
+    let q = and_then-Some (λ (q : Option PartText × List ℕ). only_if (is_end q.1) (line_texts s.0.0 p.0.0 o.0.0 q.0)) (closing_in o.0.1) l o.2 in
     let z = passed (is_end q.0.1) (line_texts s.0.0 p.0.0 o.0.0 q.0.0) l q.2 in
     record {
       s = s.0;
@@ -167,10 +168,10 @@ record Meanings (l : LineTexts) (s : Statement) : Type 0 where
 meanings_of : (l : LineTexts) (s : Statement) → statement_of l ≡ Some s → Meanings l s
 unfolding statement_of
 meanings_of l s e =
-    let a = went_on (λ (s : Term). option_and_then (λ (p : List ℕ). option_and_then (λ (o : Term). option_map (λ (g : Option Term). statement s p o g) (graph_of l.graph)) (term_of l.object)) (iri_of l.predicate)) (resource_of l.subject) s e in
-    let b = went_on (λ (p : List ℕ). option_and_then (λ (o : Term). option_map (λ (g : Option Term). statement a.0 p o g) (graph_of l.graph)) (term_of l.object)) (iri_of l.predicate) s a.2 in
-    let c = went_on (λ (o : Term). option_map (λ (g : Option Term). statement a.0 b.0 o g) (graph_of l.graph)) (term_of l.object) s b.2 in
-    let d = image_of (λ (g : Option Term). statement a.0 b.0 c.0 g) (graph_of l.graph) s c.2 in
+    let a = and_then-Some (λ (s : Term). option_and_then (λ (p : List ℕ). option_and_then (λ (o : Term). option_map (λ (g : Option Term). statement s p o g) (graph_of l.graph)) (term_of l.object)) (iri_of l.predicate)) (resource_of l.subject) s e in
+    let b = and_then-Some (λ (p : List ℕ). option_and_then (λ (o : Term). option_map (λ (g : Option Term). statement a.0 p o g) (graph_of l.graph)) (term_of l.object)) (iri_of l.predicate) s a.2 in
+    let c = and_then-Some (λ (o : Term). option_map (λ (g : Option Term). statement a.0 b.0 o g) (graph_of l.graph)) (term_of l.object) s b.2 in
+    let d = option_map-Some (λ (g : Option Term). statement a.0 b.0 c.0 g) (graph_of l.graph) s c.2 in
     subst (Meanings l) d.2 (record { subject = a.1; predicate = b.1; object = c.1; graph = d.1 })
 
 statement_from : (l : LineTexts) (s : Statement) → Meanings l s → statement_of l ≡ Some s
@@ -185,7 +186,7 @@ IsReadableGraph (Some g) = IsReadableTerm g × IsResource g
 graph_named : (text : List ℕ) (p : Option PartText) (g : Option Term) → WrittenGraph text p → graph_of p ≡ Some g → WritesGraph text g × IsReadableGraph g
 graph_named text None g w e = subst (λ (g : Option Term). WritesGraph text g × IsReadableGraph g) (same_Some None g e) (w, tt)
 graph_named text (Some p) g w e =
-    let m = image_of (λ (t : Term). Some t) (resource_of p) g e in
+    let m = option_map-Some (λ (t : Term). Some t) (resource_of p) g e in
     let r = resource_of-gives p m.0 m.1 in
     let t = term_of-gives p m.0 r.0 in
     subst (λ (g : Option Term). WritesGraph text g × IsReadableGraph g) m.2
@@ -313,8 +314,8 @@ line_in-gives line x u e =
     elim (took (is_end line) (Some None) (option_map (λ (s : Statement). Some s) (option_and_then statement_of (parts_in line))) (Some x) e) [
       | inl p ↦ subst (Says line) (same_Some None x p.1) (u, is_end-gives line p.0)
       | inr p ↦
-          let m = image_of (λ (s : Statement). Some s) (option_and_then statement_of (parts_in line)) x p.1 in
-          let r = went_on statement_of (parts_in line) m.0 m.1 in
+          let m = option_map-Some (λ (s : Statement). Some s) (option_and_then statement_of (parts_in line)) x p.1 in
+          let r = and_then-Some statement_of (parts_in line) m.0 m.1 in
           let w = statement_said line r.0 m.0 (shape_of line r.0 (steps_of line r.0 r.1)) (meanings_of r.0 m.0 r.2) in
           subst (Says line) m.2 (u, w.0, w.1)
     ]

@@ -5,6 +5,7 @@ use Rattle.std.specs.Str.{bytes_eq}
 use Rattle.std.proofs.lemmas.Bool.{true≢false}
 use Rattle.std.proofs.lemmas.Slice.Eq.{bytes_eq-Decides}
 use Rattle.std.proofs.lemmas.List.{get_or-drop, take_at, drop_at}
+use Rattle.base_types.proofs.Options.{took}
 use Rattle.base64.specs.Engines.{url_safe_no_pad}
 use Rattle.base64.specs.GeneralPurpose.{IsBytes, decode_of}
 use Rattle.base64.specs.declared.decode.DecodeError.{DecodeError}
@@ -13,7 +14,7 @@ use Rattle.cbor_core.specs.declared.fault.CborFault.{CborFault}
 use Rattle.cbor_core.specs.Internal.Results.{◌>>=◌, Unless, Gives, Fails}
 use Rattle.cbor_core.specs.Internal.Reading.{reading}
 use Rattle.cbor_core.specs.Refusals.{UnlessMemory, ReadsAs}
-use Rattle.cbor_core.proofs.Outcomes.{same_ok, same_err, took, stopped, ended, goes_on}
+use Rattle.cbor_core.proofs.Outcomes.{same_ok, same_err, stopped, ended, goes_on}
 use Rattle.cbor_core.proofs.Whole.{read_refused, refused_read, read_as}
 use Rattle.cbor_core.specs.declared.fault.CborFault.TheVariants as g
 use Rattle.proof_cbor.specs.declared.fault.ValueFault.{ValueFault}

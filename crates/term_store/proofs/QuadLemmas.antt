@@ -6,13 +6,14 @@ use Rattle.std.specs.List.Sorted.{IsPermutation, IsSorted}
 use Rattle.std.specs.Option.{option_cmp}
 use Rattle.std.specs.Cmp.{IsTotalOrder}
 use Rattle.std.specs.Ordering.{nat_cmp, ordering_then, eq_by_cmp}
-use Rattle.std.specs.declared.cmp.Ordering.TheVariants.{Less, Equal, Greater}
+use Rattle.std.specs.declared.cmp.Ordering.TheVariants.{Equal}
 use Rattle.std.proofs.lemmas.Map.Lookups.{exact_unsigned}
 use Rattle.std.proofs.lemmas.List.Filters.{dedup_is}
 use Rattle.std.proofs.lemmas.List.Kept.{IsStrictlySortedBy-dedup}
 use Rattle.base_types.specs.Sets.{SameElements, AllDiffer}
 use Rattle.base_types.proofs.Lists.{AllDiffer-strictly_sorted}
 use Rattle.base_types.proofs.Rising.{SameElements-dedup}
+use Rattle.base_types.proofs.Searching.{both_equal}
 use Rattle.term_store.specs.declared.store.TermId.{TermId}
 use Rattle.term_store.specs.declared.statements.Quad.{Quad}
 use Rattle.term_store.specs.contracts.statements.QuadOrd.TheImpl.Laws.{total-law}
@@ -27,11 +28,6 @@ quad_cmp x y = ordering_then (id_cmp x.subject y.subject) (ordering_then (id_cmp
 quad_total : IsTotalOrder quad_cmp
 quad_total = total-law
 
-first_equal : (o p : Ordering) → ordering_then o p ≡ Equal → (o ≡ Equal) × (p ≡ Equal)
-first_equal Less p e = absurd (cc)
-first_equal Equal p e = (refl, e)
-first_equal Greater p e = absurd (cc)
-
 id_exact : (a b : TermId) → id_cmp a b ≡ Equal → a ≡ b
 id_exact a b e = let same = exact_unsigned a.index b.index e in λ i. record { index = same i }
 
@@ -43,9 +39,9 @@ graphs_exact (Some g) (Some h) e = ap Some (id_exact g h e)
 
 quad_exact : (x y : Quad) → quad_cmp x y ≡ Equal → x ≡ y
 quad_exact x y e =
-    let a = first_equal (id_cmp x.subject y.subject) _ e in
-    let b = first_equal (id_cmp x.predicate y.predicate) _ a.1 in
-    let d = first_equal (id_cmp x.object y.object) _ b.1 in
+    let a = both_equal (id_cmp x.subject y.subject) _ e in
+    let b = both_equal (id_cmp x.predicate y.predicate) _ a.1 in
+    let d = both_equal (id_cmp x.object y.object) _ b.1 in
     let s = id_exact x.subject y.subject a.0 in
     let p = id_exact x.predicate y.predicate b.0 in
     let o = id_exact x.object y.object d.0 in

@@ -1,5 +1,5 @@
 -- What the numbers of a store keep as it grows, and what `intern` leaves.
-use Rattle.std.proofs.Common.{◌≡◌, ℕ, ◌+◌, ◌<◌, ◌≤◌, ◌||◌, Bool, true, false, cond, ltb, not, List, [], ◌∷◌, ◌++◌, map, length, get_or, slice_get, position, option_map, Some, None, refl, sym, ap, ◌∙◌, ⊎_elim, arith, if◌then◌else◌}
+use Rattle.std.proofs.Common.{◌≡◌, ℕ, ◌+◌, ◌<◌, ◌≤◌, Bool, true, false, cond, ltb, not, List, [], ◌∷◌, ◌++◌, map, length, get_or, slice_get, position, option_map, Some, None, refl, sym, ap, ◌∙◌, ⊎_elim, arith, if◌then◌else◌}
 use Rattle.std.specs.List.{list_any, position_or_len, IsDistinct, AllByRecursion}
 use Rattle.std.specs.Str.{bytes_eq}
 use Rattle.std.proofs.lemmas.Bool.{cases_lt}
@@ -11,6 +11,8 @@ use Rattle.std.proofs.lemmas.Option.{slice_get-map, slice_get-get_or, slice_get_
 use Rattle.std.proofs.lemmas.Slice.Eq.{bytes_eq-Decides}
 use Rattle.indexmap.specs.IndexSet.{insert_key}
 use Rattle.base_types.specs.Sets.{AllDiffer}
+use Rattle.base_types.proofs.Lists.{list_any-map}
+use Rattle.base_types.proofs.Orders.{bytes_eq-same}
 use Rattle.term_store.specs.Store.{text_at, with_text, IsStore, Grows, Interns}
 use Rattle.term_store.specs.declared.store.TermId.{TermId}
 
@@ -49,13 +51,10 @@ text_at-one texts differ a b l m same =
 
 -- ---- a text that is put in twice
 
-itself : (text : List ℕ) → bytes_eq text text ≡ true
-itself text = (bytes_eq-Decides text text).1 refl
-
 -- a text that is there is not put in again
 pub with_text-there : (texts : List (List ℕ)) (text : List ℕ) (n : ℕ) → slice_get texts n ≡ Some text → with_text texts text ≡ texts
 with_text-there texts text n at =
-    ap (λ b. if b then texts else texts ++ text ∷ []) (any_passes_from_place (bytes_eq text) texts n text at (itself text))
+    ap (λ b. if b then texts else texts ++ text ∷ []) (any_passes_from_place (bytes_eq text) texts n text at (bytes_eq-same text text refl))
 
 -- the second time it has the number of the first, and the store stays
 pub Interns-again : (old mid new : List (List ℕ)) (text : List ℕ) (m n : ℕ) → Interns old text m mid → Interns mid text n new → (n ≡ m) × (new ≡ mid)
@@ -101,10 +100,6 @@ module _ {K : Type 0} (f : K → List ℕ) where
       let long = length-map ks f in
       λ j. cond (ltb (at j) (long j)) (Some (at j)) None
 
-  list_any-texts : (p : List ℕ → Bool) (ks : List K) → list_any p (map f ks) ≡ list_any (λ k. p (f k)) ks
-  list_any-texts p [] = refl
-  list_any-texts p (k ∷ ks) = ap (λ b. p (f k) || b) (list_any-texts p ks)
-
   -- the text of a key that is there
   pub Interns-found : (ks : List K) (text : List ℕ) (n : ℕ) → AllDiffer (map f ks) → position (λ k. bytes_eq text (f k)) ks ≡ Some n → Interns (map f ks) text n (map f ks)
   Interns-found ks text n differ found =
@@ -117,7 +112,7 @@ module _ {K : Type 0} (f : K → List ℕ) where
   texts-insert_key ks k = by (list_any (same_key k) ks) refl
     where
       any : list_any (bytes_eq (f k)) (map f ks) ≡ list_any (same_key k) ks
-      any = list_any-texts (bytes_eq (f k)) ks
+      any = list_any-map (bytes_eq (f k)) f ks
 
       by : (b : Bool) → list_any (same_key k) ks ≡ b → map f (insert_key same_key ks k) ≡ with_text (map f ks) (f k)
       by true e = ap (λ c. map f (if c then ks else ks ++ k ∷ [])) e ∙ sym (ap (λ c. if c then map f ks else map f ks ++ f k ∷ []) (any ∙ e))

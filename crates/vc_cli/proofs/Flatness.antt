@@ -17,7 +17,6 @@ use Rattle.json_tree.proofs.Equations.{holds_version-Object, holds_version-Text,
 use Rattle.ld_rdf.specs.Flat.{HasText, IsFlat, at_context, at_id, document_place}
 use Rattle.json_tree.specs.Members.{put_member}
 use Rattle.ld_rdf.specs.Reduced.{statements_request, with_context}
-use Rattle.ld_rdf.proofs.OptionsAndLists.{option_map-Some}
 use Rattle.ld_rdf.proofs.Shapes.{members_are_lawful}
 use Rattle.ld_rdf.proofs.Meaning.{value_at_member}
 use Rattle.vc_cli.specs.declared.requests.IssueRead.{IssueRead}
@@ -30,6 +29,7 @@ use Rattle.vc_cli.specs.Internal.Parts.{IsIssueRead}
 use Rattle.vc_cli.proofs.Looks.{look_in}
 use Rattle.vc_cli.proofs.Putting.{put_contains, with_member-lawful}
 use Rattle.base_types.proofs.Orders.{bytes_eq-true, bytes_eq-same}
+use Rattle.base_types.proofs.Options.{option_map-Some}
 use Rattle.json_tree.proofs.MemberChanges.{members_of-with_members}
 
 abbrev keys : List (Member Tree) → List (List ℕ)

@@ -15,10 +15,11 @@ use Rattle.json_tree.proofs.TreeLemmas.{child_of-members, members_lawful, member
 use Rattle.ld_rdf.specs.Flat.{HasText, at_context}
 use Rattle.ld_rdf.specs.Internal.Parts.{only_if}
 use Rattle.json_tree.specs.Members.{with_members, with_members_in, without, without_key}
-use Rattle.ld_rdf.proofs.OptionsAndLists.{and_then-Some, provided-Some, map_or-true}
+use Rattle.ld_rdf.proofs.OptionsAndLists.{provided-Some, map_or-true}
 use Rattle.vc_cli.specs.Requests.{HasShape, at, value_name}
 use Rattle.vc_cli.specs.Internal.Parts.{has_form, has_text, lacks, method_in, text_under}
 use Rattle.base_types.proofs.Orders.{bytes_eq-true, bytes_eq-same}
+use Rattle.base_types.proofs.Options.{and_then-Some, is_none-true}
 use Rattle.json_tree.proofs.MemberChanges.{members_of-with_members, value_gone, without_absent}
 
 -- ---- one step
@@ -44,11 +45,6 @@ text_under-from key t text h = ap (option_and_then text_of) h ∙ text_of-Text t
 -- the text that is told stands below the key
 pub text_under-Some : (key : List ℕ) (t : Tree) (text : List ℕ) → text_under key t ≡ Some text → HasText (at key) t text
 text_under-Some key t text h = let f = and_then-Some text_of (look (at key) t) text h in f.1 ∙ ap Some (text_of-Some f.0 text f.2)
-
--- what is told to be nothing is nothing
-pub none_from : {A : Type 0} (o : Option A) → is_none o ≡ true → o ≡ None
-none_from None h = refl
-none_from (Some x) h = absurd (cc)
 
 some_from : {A : Type 0} (o : Option A) → is_some o ≡ true → (x : A) × (o ≡ Some x)
 some_from None h = absurd (cc)
@@ -117,9 +113,9 @@ module _ (o : Tree) where
         suite_is = has_text-true (codes "cryptosuite") (codes "ecdsa-sd-2023") o g.1;
         method_is = text_under-Some (codes "verificationMethod") o method given.1;
         purpose_is = text_under-Some (codes "proofPurpose") o purpose.0 purpose.1;
-        no_created = none_from (look (at (codes "created")) o) g.3;
-        no_expires = none_from (look (at (codes "expires")) o) g.4;
-        no_context = none_from (look (at at_context) o) g.5;
+        no_created = is_none-true (look (at (codes "created")) o) g.3;
+        no_expires = is_none-true (look (at (codes "expires")) o) g.4;
+        no_context = is_none-true (look (at at_context) o) g.5;
       }
 
   pub method_from : (method : List ℕ) → Form o method → method_in o ≡ Some method

@@ -15,15 +15,16 @@ use Rattle.ld_rdf.specs.Flat.{IsFlat, IsFlatMeaning, Means, at_context}
 use Rattle.ld_rdf.specs.Internal.Parts.{only_if}
 use Rattle.json_tree.specs.Members.{without}
 use Rattle.ld_rdf.specs.Reduced.{statements_request, with_context}
-use Rattle.ld_rdf.proofs.OptionsAndLists.{and_then-Some, option_map-Some, provided-Some}
+use Rattle.ld_rdf.proofs.OptionsAndLists.{provided-Some}
 use Rattle.vc_cli.specs.declared.requests.IssueRead.{IssueRead}
 use Rattle.vc_cli.specs.declared.tasks.VerifyTask.{VerifyTask}
 use Rattle.vc_cli.specs.Requests.{HasShape, IsFlatIssue, IsFlatVerify, IsIssue, IsKeyTable, IsVerify, IssueParts, VerifyParts, at, issue_object, proof_name, value_name, whole_document}
 use Rattle.vc_cli.specs.Internal.Tasks.{IsVerifyTask}
 use Rattle.vc_cli.specs.Internal.Parts.{IsIssueRead, five_in, five_of, issue_names, lacks, method_in, proof_parts, text_under, three_in, three_of}
-use Rattle.vc_cli.proofs.Looks.{SameBeside, form_from, form_of, look_removed, look_without, method_from, none_from, shape_from, text_under-from, text_under-Some, without_none}
+use Rattle.vc_cli.proofs.Looks.{SameBeside, form_from, form_of, look_removed, look_without, method_from, shape_from, text_under-from, text_under-Some, without_none}
 use Rattle.base_types.proofs.Lists.{same_some}
 use Rattle.base_types.proofs.Orders.{bytes_eq-true}
+use Rattle.base_types.proofs.Options.{and_then-Some, option_map-Some, is_none-true}
 
 -- ---- the members
 
@@ -207,8 +208,8 @@ module _ (r : Tree) where
         let inner = option_map-Some (λ (y : List ℕ). two_texts outer.0 y) (method_in o) (two_texts name method) outer.2 in
         let name_is : outer.0 ≡ name = ap (λ (n : List ℕ × List ℕ). n.0) inner.2 in
         let method_here : inner.0 ≡ method = ap (λ (n : List ℕ × List ℕ). n.1) inner.2 in
-        let no_proof = none_from (look (at proof_name) d) absent.0 in
-        let no_value = none_from (look (at value_name) o) absent.1 in
+        let no_proof = is_none-true (look (at proof_name) d) absent.0 in
+        let no_value = is_none-true (look (at value_name) o) absent.1 in
         let d_whole : without proof_name d ≡ d = without_none proof_name d no_proof in
         let o_whole : without value_name o ≡ o = without_none value_name o no_value in
         let same : SameBeside value_name o o = λ key e. refl in

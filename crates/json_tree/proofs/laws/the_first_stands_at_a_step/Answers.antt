@@ -7,12 +7,12 @@ use Rattle.json_tree.specs.declared.place.Step.TheVariants.{Key, At}
 use Rattle.json_tree.specs.Places.{value_of}
 use Rattle.json_tree.specs.Trees.{element, new_member}
 use Rattle.json_tree.proofs.Kept.{look-one}
-use Rattle.json_tree.proofs.Rising.{bytes_eq-itself}
+use Rattle.base_types.proofs.Orders.{bytes_eq-same}
 use Rattle.json_tree.proofs.TreeLemmas.{child_of-Object-Key, child_of-List-At}
 use Rattle.json_tree.proofs.laws.the_first_stands_at_a_step.Goals as goal
 
 first_member : (key : List ℕ) (value : Tree) (others : List (Member Tree)) → value_of key (new_member key value ∷ others) ≡ Some value
-first_member key value others = rw (bytes_eq-itself key) refl
+first_member key value others = rw (bytes_eq-same key key refl) refl
 
 first_element : (at : ℕ) (value : Tree) (others : List (Item Tree)) → option_map (λ i. i.value) (find (λ i. i.at == at) (element at value ∷ others)) ≡ Some value
 first_element at value others = let same : (at == at) ≡ true = grind (arith, nat_tests) in rw same refl
