@@ -1,3 +1,4 @@
 pub mod Digests
+pub mod Labels
 pub mod Arrays
 pub mod Internal

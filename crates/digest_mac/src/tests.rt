@@ -182,3 +182,28 @@ fn a_text_in_two_pieces(rt: HostRuntime) {
         }
     }
 }
+
+/// Bytes with their labels, as another implementation prints them.
+const LABELS: [(&[u8], &str); 10] = [
+    (b"", "u"),
+    (b"f", "uZg"),
+    (b"fo", "uZm8"),
+    (b"foo", "uZm9v"),
+    (b"foob", "uZm9vYg"),
+    (b"fooba", "uZm9vYmE"),
+    (b"foobar", "uZm9vYmFy"),
+    (&[0x3e, 0x3f, 0xfe, 0xff], "uPj_-_w"),
+    (&[0xff; 32], "u__________________________________________8"),
+    (
+        &[0; 48],
+        "uAAAAAAAAAAAAAAAAAAAAAAAAAAAAAAAAAAAAAAAAAAAAAAAAAAAAAAAAAAAAAAAA",
+    ),
+];
+
+#[test]
+fn known_labels(rt: HostRuntime) -> Result<(), Fail> {
+    for (bytes, label) in LABELS {
+        assert_eq!(rt; label_text(rt.alloc(), bytes)?.as_str(), label);
+    }
+    Ok(())
+}
