@@ -1,18 +1,20 @@
 -- The dataset of a flat request.
-use Rattle.std.proofs.Common.{◌≡◌, ◌≢◌, ℕ, true, false, ◌==◌, List, map, Contains, bytes_eq, not, Some, refl, sym, ap, ◌∙◌, subst, arith, codes}
+use Rattle.std.proofs.Common.{◌≡◌, ◌≢◌, ℕ, true, false, ◌==◌, List, [], ◌∷◌, map, Contains, bytes_eq, not, Some, refl, sym, ap, ◌∙◌, subst, arith, codes}
 use Rattle.std.specs.List.{starts_with}
 use Rattle.std.proofs.lemmas.Bool.{true≢false, not-true}
 use Rattle.std.proofs.lemmas.Bool.Decides.{nat_tests}
 use Rattle.std.proofs.lemmas.List.Elements.{All-weaker}
 use Rattle.std.proofs.lemmas.List.Sums.{AllPass-from_list_all}
 use Rattle.base_types.specs.Sets.{SameElements, AllDiffer}
-use Rattle.base_types.proofs.Lists.{Contains-map, Contains-from_map, AllDiffer-images}
+use Rattle.base_types.proofs.Lists.{Contains-here, Contains-there, Contains-nil, Contains-map, Contains-from_map, AllDiffer-images}
 use Rattle.json_tree.specs.declared.tree.Tree.{Tree}
 use Rattle.json_tree.specs.Trees.{is_lawful}
-use Rattle.nquads.specs.Terms.{Statement, HasIriCharacters, IsStatement, is_forbidden, xsd_string, rdf_lang_string}
+use Rattle.nquads.specs.Terms.{Blank, Statement, HasIriCharacters, IsStatement, is_forbidden, xsd_string, rdf_lang_string}
 use Rattle.nquads.specs.Spelling.{text_quad}
-use Rattle.nquads.specs.declared.quads.TextQuad.{TextQuad}
+use Rattle.nquads.specs.Lines.{line}
+use Rattle.nquads.specs.Renaming.{blanks_of}
 use Rattle.nquads.proofs.ReadingTerms.{spelled_one_reading}
+use Rattle.nquads.proofs.ReadingLines.{line_names_statement}
 use Rattle.ld_rdf.specs.Plain.{is_iri_character, IsPlainIri}
 use Rattle.ld_rdf.specs.Flat.{property_statement, IsFlat, IsFlatMeaning, Means}
 use Rattle.ld_rdf.proofs.WholeRequests.{flat_statements}
@@ -47,6 +49,21 @@ property_is_statement id mapping text p q = record {
   graph = tt;
 }
 
+-- ---- lines
+
+-- what a request means has no blank nodes
+pub no_blanks : (r : Tree) (s : Statement) → Means r s → blanks_of s ≡ []
+no_blanks r s m = ap blanks_of m.is
+
+-- so its lines are the same under any labels
+pub lines_alike : (r : Tree) (f g : Blank → List ℕ) (q : List Statement) → ((s : Statement) → Contains q s → Means r s) → map (line f) q ≡ map (line g) q
+lines_alike r f g [] all = refl
+lines_alike r f g (s ∷ ss) all =
+    let is = (all s (Contains-here s ss)).is in
+    let first : line f s ≡ line g s = ap (line f) is ∙ sym (ap (line g) is) in
+    let rest = lines_alike r f g ss (λ t c. all t (Contains-there s ss t c)) in
+    λ i. first i ∷ rest i
+
 -- ---- the dataset
 
 module _ (r : Tree) (lawful : is_lawful r ≡ true) (ss : List Statement) (h : flat_statements r ≡ Some ss) where
@@ -64,15 +81,24 @@ module _ (r : Tree) (lawful : is_lawful r ≡ true) (ss : List Statement) (h : f
       let plain = means_plain r lawful shape ss described_here t m in
       subst IsStatement (sym m.is) (property_is_statement m.id m.mapping m.text plain.0 plain.1)
 
-  -- what a set of spellings of the statements stands for
-  pub dataset_here : (quads : List TextQuad) → SameElements quads (map text_quad ss) → AllDiffer quads → (q : List Statement) × IsFlatMeaning r q × (quads ≡ map text_quad q)
-  dataset_here quads same differ =
-      let found = picked text_quad ss quads (λ x c. (same x).0 c) in
+  -- the spellings of what the request means tell it apart
+  pub spelled_apart : (s t : Statement) → Means r s → Means r t → text_quad s ≡ text_quad t → s ≡ t
+  spelled_apart s t m n e = spelled_one_reading s t (statement_here s m) (statement_here t n) e
+
+  -- and so do its lines
+  pub lines_apart : (f : Blank → List ℕ) (s t : Statement) → Means r s → Means r t → line f s ≡ line f t → s ≡ t
+  lines_apart f s t m n e =
+      let none : (u : Statement) → Means r u → (b : Blank) → Contains (blanks_of u) b → ⊥ = λ u k b c. Contains-nil b (subst (λ (bs : List Blank). Contains bs b) (no_blanks r u k) c) in
+      line_names_statement f s t (statement_here s m) (statement_here t n) (λ b c. absurd (none s m b c)) (λ b c. absurd (none t n b c)) (λ a b c d. absurd (none s m a c)) e
+
+  -- what a set of images of the statements stands for, where these tell them apart
+  pub dataset_here : {A : Type 0} (f : Statement → A) → ((s t : Statement) → Means r s → Means r t → f s ≡ f t → s ≡ t) → (made : List A) → SameElements made (map f ss) → AllDiffer made → (q : List Statement) × IsFlatMeaning r q × (made ≡ map f q)
+  dataset_here {A} f apart made same differ =
+      let found = picked f ss made (λ x c. (same x).0 c) in
       let q = found.0 in
       let exact : (t : Statement) → Contains q t → Means r t = λ t c. means_from r lawful shape ss described_here t (found.2 t c) in
       let back : (t : Statement) → Means r t → Contains q t = λ t m.
-      let spelling_there : Contains (map text_quad q) (text_quad t) = subst (λ (l : List TextQuad). Contains l (text_quad t)) found.1 ((same (text_quad t)).1 (Contains-map text_quad ss t (means_to r lawful shape ss described_here t m))) in
-      let other = Contains-from_map text_quad q (text_quad t) spelling_there in
-      let one : other.0 ≡ t = spelled_one_reading other.0 t (statement_here other.0 (exact other.0 other.1)) (statement_here t m) other.2 in
-      subst (Contains q) one other.1 in
-      (q, record { dataset = AllDiffer-images text_quad q (subst AllDiffer found.1 differ); exact = λ t. (exact t, back t) }, found.1)
+      let image_there : Contains (map f q) (f t) = subst (λ (l : List A). Contains l (f t)) found.1 ((same (f t)).1 (Contains-map f ss t (means_to r lawful shape ss described_here t m))) in
+      let other = Contains-from_map f q (f t) image_there in
+      subst (Contains q) (apart other.0 t (exact other.0 other.1) m other.2) other.1 in
+      (q, record { dataset = AllDiffer-images f q (subst AllDiffer found.1 differ); exact = λ t. (exact t, back t) }, found.1)

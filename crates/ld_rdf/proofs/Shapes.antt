@@ -1,5 +1,5 @@
 -- A flat request by its members: what its places show, and what its parts are.
-use Rattle.std.proofs.Common.{◌≡◌, ℕ, true, false, ◌&&◌, List, [], ◌∷◌, map, Option, Some, None, option_map, option_and_then, refl, ap, ◌∙◌, codes}
+use Rattle.std.proofs.Common.{◌≡◌, ℕ, true, false, ◌&&◌, List, [], ◌∷◌, map, Some, option_map, option_and_then, refl, ap, ◌∙◌, codes}
 use Rattle.std.specs.Str.{bytes_eq}
 use Rattle.json_tree.specs.declared.tree.Tree.{Tree, out-Tree}
 use Rattle.json_tree.specs.declared.tree.Member.{Member}

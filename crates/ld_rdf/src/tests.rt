@@ -1,7 +1,7 @@
 //! Requests and the statements that their documents mean, by hand from JSON-LD 1.1.
-use crate::{FlatFault, Text, flat, flat_document, flat_options};
+use crate::{FlatFault, Text, flat, flat_document, flat_lines, flat_options};
 use json_tree::{TreeFault, read};
-use nquads::TextQuads;
+use nquads::{TextQuads, join};
 use std::alloc::Global;
 use std::test::Fail;
 
@@ -66,6 +66,41 @@ fn a_request_that_is_not_flat_is_not_built(rt: HostRuntime) -> Result<(), Fail> 
     for bytes in NOT_FLAT {
         let tree = read(rt.alloc(), bytes)?;
         assert_eq!(rt; flat(rt.alloc(), &tree).err(), Some(FlatFault::NotBuilt));
+        assert_eq!(rt;
+            flat_lines(rt.alloc(), &tree).err(),
+            Some(FlatFault::NotBuilt)
+        );
+    }
+    Ok(())
+}
+
+/// Two properties whose names stand in another order than the IRIs that they stand for.
+const OUT_OF_ORDER: &[u8] =
+    br#"{"contexts":{"c":{"@context":{"m":"https://e/z","n":"https://e/y"}}},"document":{"@context":"c","@id":"https://e/a","m":"1","n":"2\""}}"#;
+
+/// Requests and their lines, by hand from N-Quads and its canonical form.
+const LINES: [(&[u8], &str); 4] = [
+    (
+        ANN,
+        "<https://ex.org/a> <https://schema.org/name> \"Ann\" .\n",
+    ),
+    (
+        REPEATED,
+        "<https://ex.org/a> <https://schema.org/name> \"Ann\" .\n",
+    ),
+    (EMPTY, ""),
+    (
+        OUT_OF_ORDER,
+        "<https://e/a> <https://e/y> \"2\\\"\" .\n<https://e/a> <https://e/z> \"1\" .\n",
+    ),
+];
+
+#[test]
+fn lines_stand_in_order_each_once(rt: HostRuntime) -> Result<(), Fail> {
+    for (request, text) in LINES {
+        let lines = flat_lines(rt.alloc(), &read(rt.alloc(), request)?)?;
+        let joined = join(rt.alloc(), lines.as_slice())?;
+        assert_eq!(rt; joined.as_slice(), text.as_bytes());
     }
     Ok(())
 }

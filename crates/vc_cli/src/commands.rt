@@ -19,7 +19,7 @@ use crate::verifying::{self, AcceptedProof, Verdict, VerifyFault};
 use json_tree::Tree;
 use key_device::KeyDevice;
 use ld_rdf::FlatFault;
-use nquads::{Memory, Sequence, Text, TextLabels};
+use nquads::{Memory, Sequence, Text};
 use std::alloc::Global;
 use stmt_groups::Cause;
 use vc_io::Source;
@@ -40,14 +40,14 @@ fn statements_of(alloc: Global, request: Tree) -> Reply
     requires { is_lawful request ≡ true }
     ensures { IsReply (StatementsAnswers request) result }
 {
-    let quads = match ld_rdf::flat(alloc, &request) {
-        Ok(quads) => quads,
+    let lines = match ld_rdf::flat_lines(alloc, &request) {
+        Ok(lines) => lines,
         Err(FlatFault::NotBuilt) => return Reply::NotBuilt,
         Err(FlatFault::Memory) => return Reply::Memory,
     };
     // The request makes room for the text.
     drop(request);
-    match nquads::text_of(alloc, &quads, &TextLabels::new(alloc)) {
+    match nquads::join(alloc, lines.as_slice()) {
         Ok(text) => Reply::Statements(Sequence::from_vec(text)),
         Err(Memory) => Reply::Memory,
     }

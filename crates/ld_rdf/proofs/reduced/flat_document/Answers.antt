@@ -17,13 +17,13 @@ returns-in-Ok-clause-ok c =
 
 pub returns-in-Ok-clause-statements : goal.returns-in-Ok-clause-statements
 returns-in-Ok-clause-statements c =
-    flat_means (statements_request c.args.contexts.now (without c.args.besides.now c.args.document.now))
+    flat_means text_quad (statements_request c.args.contexts.now (without c.args.besides.now c.args.document.now))
     (request_is_lawful c.args.contexts.now _ c.requires.contexts (without_is_lawful c.args.besides.now c.args.document.now c.requires.document))
     _ (ap (option_map (map text_quad)) (document_made c.args.besides.now c.args.contexts.now c.args.document.now) ∙ c.in-Ok.ensures)
 
 pub returns-in-Err-clause-not_built : goal.returns-in-Err-clause-not_built
 returns-in-Err-clause-not_built c is =
     let refused : c.in-Err.fault ≡ NotBuilt = cc in
-    flat_not_built (statements_request c.args.contexts.now (without c.args.besides.now c.args.document.now))
+    flat_not_built text_quad (statements_request c.args.contexts.now (without c.args.besides.now c.args.document.now))
     (request_is_lawful c.args.contexts.now _ c.requires.contexts (without_is_lawful c.args.besides.now c.args.document.now c.requires.document))
     c.in-Err.fault (subst (λ (o : Option (List Statement)). BuildsItems (option_map (map text_quad) o) (Err c.in-Err.fault)) (sym (document_made c.args.besides.now c.args.contexts.now c.args.document.now)) c.in-Err.ensures) refused

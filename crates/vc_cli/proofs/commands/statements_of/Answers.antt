@@ -1,10 +1,11 @@
-use Rattle.std.proofs.Common.{◌∙◌}
-use Rattle.vc_cli.proofs.FlatTexts.{text_without, same_from}
+use Rattle.std.proofs.Common.{ap, ◌∙◌}
+use Rattle.std.specs.List.{concat}
+use Rattle.vc_cli.specs.Issuing.{no_label}
 use Rattle.vc_cli.proofs.commands.statements_of.Goals as goal
 
-pub returns-in-Ok-text_of : goal.returns-in-Ok-text_of
-returns-in-Ok-text_of c =
+pub returns-in-Ok-join : goal.returns-in-Ok-join
+returns-in-Ok-join c =
     let flat = c.in-Ok.ensures.ok.1 in (
       c.in-Ok.ensures.ok.0,
-      record { meaning = flat.0; means = flat.1; is = c.from_vec.ensures ∙ text_without _ flat.0 _ c.new.ensures (c.in-Ok-text_of.ensures flat.0 (same_from _ _ flat.2)) },
+      record { meaning = flat.0; means = flat.1; is = c.from_vec.ensures ∙ c.in-Ok-join.ensures ∙ ap concat (c.as_slice.ensures ∙ flat.2 no_label) },
     )
