@@ -3,7 +3,7 @@ use Rattle.std.proofs.Common.{◌≡◌, ℕ, ◌<◌, ◌≤◌, List, [], ◌�
 use Rattle.std.proofs.lemmas.Option.{none-some, same_Some}
 use Rattle.std.proofs.lemmas.List.Elements.{All-contains, Contains-append_left, Contains-append_right, Contains-append_cases}
 use Rattle.base_types.specs.Sets.{AllDiffer, SameElements}
-use Rattle.base_types.proofs.Lists.{Contains-nil, Contains-here, Contains-cons_cases, Contains-map, Contains-from_map, Contains-flat_map, Contains-from_flat_map}
+use Rattle.base_types.proofs.Lists.{Contains-nil, Contains-here, Contains-there, Contains-cons_cases, Contains-map, Contains-from_map, Contains-flat_map, Contains-from_flat_map, SameElements-refl}
 use Rattle.term_store.specs.Store.{text_at, begins_blank}
 use Rattle.term_store.specs.declared.store.TermId.{TermId}
 use Rattle.term_store.specs.declared.statements.Quad.{Quad}
@@ -153,6 +153,14 @@ number_known texts quads i a n =
         | inr n ↦ graph_known texts (q.0).graph i k.graph n
       ]
     ]
+
+-- so each blank node of the dataset has a number of the store
+pub number_of_blank : (texts : List (List ℕ)) (quads : List Quad) (d : List Statement) → All (IsKnown texts) quads → map (quad_texts texts) quads ≡ map text_quad d → (b : Blank) → StandsIn d b → (id : TermId) × (id.index < length texts) × (text_at texts id ≡ blank_text b)
+number_of_blank texts quads d known is b stands =
+    let same : SameElements (map (quad_texts texts) quads) (map text_quad d) = subst (λ ts. SameElements ts (map text_quad d)) (sym is) (SameElements-refl (map text_quad d)) in
+    let n = blank_number texts quads d same b stands in
+    let id : TermId = record { index = n.number } in
+    (id, number_known texts quads n.number known n.within, n.names)
 
 -- ---- the limit
 

@@ -16,7 +16,7 @@ use Rattle.base_types.proofs.Rising.{rising-dedup, rising-free}
 use Rattle.nquads.specs.Terms.{Term, iri, literal, blank, Statement}
 use Rattle.nquads.specs.Spelling.{spelling, blank_text, text_quad}
 use Rattle.nquads.specs.Lines.{term_text, graph_text, line, line_text, canonical_lines}
-use Rattle.nquads.specs.Texts.{part_text, graph_part_text, text_line}
+use Rattle.nquads.specs.Internal.TextLines.{part_text, graph_part_text, text_line}
 use Rattle.nquads.specs.declared.quads.TextQuad.{TextQuad}
 
 module _ (label : List ℕ → List ℕ) where

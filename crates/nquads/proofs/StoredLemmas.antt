@@ -19,7 +19,8 @@ use Rattle.term_store.proofs.StoreLemmas.{ids-one, text_at-one}
 use Rattle.nquads.specs.Terms.{Term, iri, literal, blank, Statement}
 use Rattle.nquads.specs.Spelling.{spelling, text_quad}
 use Rattle.nquads.specs.Lines.{line, canonical_lines}
-use Rattle.nquads.specs.Texts.{find_label, label_text, label_in, is_blank, part_text, graph_part_text, text_line}
+use Rattle.nquads.specs.Texts.{find_label, label_text, label_in}
+use Rattle.nquads.specs.Internal.TextLines.{is_blank, part_text, graph_part_text, text_line}
 use Rattle.nquads.specs.Stored.{quad_texts, IsKnown, AreLabelsKnown, labels_by_text, find_number}
 use Rattle.nquads.specs.Internal.Parts.{number_part, number_graph, number_line}
 use Rattle.nquads.specs.declared.numbers.Label.{Label}

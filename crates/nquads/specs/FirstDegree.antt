@@ -1,8 +1,9 @@
 -- The blank nodes of a dataset and their first-degree hashes. RDF Canonicalization, 4.4.3 and 4.6.
-use Rattle.std.specs.Prelude.{◌≡◌, ℕ, List, [], ◌∷◌, Bool, not, map, filter, flat_map, if◌then◌else◌, codes}
+use Rattle.std.specs.Prelude.{◌≡◌, ◌<◌, ℕ, List, [], ◌∷◌, Bool, not, length, map, filter, flat_map, if◌then◌else◌, codes}
 use Rattle.std.specs.List.{concat, list_any}
 use Rattle.base_types.specs.Order.{in_order}
 use Rattle.base_types.specs.Sets.{AllDiffer, HasExactly}
+use Rattle.term_store.specs.Store.{text_at}
 use Rattle.nquads.specs.Terms.{Blank, Statement}
 use Rattle.nquads.specs.Renaming.{same_blank, blanks_of, StandsIn}
 use Rattle.nquads.specs.Spelling.{blank_text}
@@ -36,18 +37,16 @@ mark n b = if same_blank n b then codes "a" else codes "z"
 abbrev pub first_degree_hash : (List ℕ → List ℕ) → List Statement → Blank → List ℕ
 first_degree_hash digest q n = digest (concat (in_order (map (line (mark n)) (mention_set q n))))
 
--- a blank node, by its text, with a hash
-abbrev pub blank_hash : List ℕ → List ℕ → BlankHash
-blank_hash blank hash = record { blank = blank; hash = hash }
-
--- it is the hash of a blank node of the dataset
-abbrev pub IsFirstHash : (List ℕ → List ℕ) → List Statement → BlankHash → Type 0
-IsFirstHash digest q h =
-    (n : Blank) × StandsIn q n
-    × (h ≡ blank_hash (blank_text n) (first_degree_hash digest q n))
+-- It is the first-degree hash of a blank node of the dataset, which it names by the number of the
+-- blank node's text in the store.
+abbrev pub IsFirstHash :
+    (List ℕ → List ℕ) → List (List ℕ) → List Statement → BlankHash → Type 0
+IsFirstHash digest texts q h =
+    (n : Blank) × StandsIn q n × (h.blank.index < length texts)
+    × (text_at texts h.blank ≡ blank_text n) × (h.hash ≡ first_degree_hash digest q n)
 
 -- The list names each blank node of the dataset once, with its first-degree hash.
-pub record AreFirstHashes (digest : List ℕ → List ℕ) (q : List Statement) (hashes : List BlankHash)
-    : Type 0 where
+pub record AreFirstHashes (digest : List ℕ → List ℕ) (texts : List (List ℕ)) (q : List Statement)
+    (hashes : List BlankHash) : Type 0 where
   pub once : AllDiffer (map (λ (h : BlankHash). h.blank) hashes)
-  pub exact : HasExactly hashes (IsFirstHash digest q)
+  pub exact : HasExactly hashes (IsFirstHash digest texts q)

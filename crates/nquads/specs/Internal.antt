@@ -3,3 +3,4 @@ pub mod Meaning
 pub mod Parsing
 pub mod Lines
 pub mod Storing
+pub mod TextLines

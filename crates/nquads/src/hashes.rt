@@ -1,10 +1,11 @@
-//! A blank node with a hash (RDF Dataset Canonicalization, 4.6 and 4.8).
+//! A blank node with a hash (RDF Dataset Canonicalization, 4.6).
 
-use base_types::Text;
+use digest_mac::HexDigest;
+use term_store::TermId;
 
-/// A blank node, as statements name it, and a hash of it in lower-case hexadecimal digits.
-#[derive(Clone, Debug, Drop, PartialEq, Eq)]
+/// A blank node, by its number in a store, and a hash of it.
+#[derive(Clone, Copy, Debug, PartialEq, Eq)]
 pub struct BlankHash {
-    pub blank: Text,
-    pub hash: [u8; 64],
+    pub blank: TermId,
+    pub hash: HexDigest,
 }

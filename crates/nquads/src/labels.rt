@@ -1,6 +1,6 @@
-//! Labels of blank nodes, and what a line asks of them.
+//! Labels of blank nodes by their texts.
 
-ghost use Rattle.std.specs.Prelude.{◌≡◌, ℕ, List, [], ◌∷◌, ◌++◌, None, length, map, slice_get, OnOk, OnErr};
+ghost use Rattle.std.specs.Prelude.{◌≡◌, [], ◌∷◌, ◌++◌, None, length, map, slice_get, OnOk, OnErr};
 ghost use Rattle.base_types.specs.Sets.{AllDiffer};
 ghost use Rattle.std.specs.Option.{option_copied, option_map};
 ghost use Rattle.nquads.specs.Texts.{find_label, label};
@@ -9,16 +9,6 @@ use base_types::{Memory, Text};
 use indexmap::IndexMap;
 use std::alloc::Global;
 use std::marker::Model;
-
-/// What a line has for the blank nodes in it.
-pub trait BlankLabels {
-    /// The label of the blank node that statements name so, as it stands behind `_:`.
-    ghost label_of: { Self → List ℕ → List ℕ };
-
-    /// Puts the label of the blank node that statements name `blank` at the end of `out`.
-    fn push_label(&self, out: &mut Text, blank: &str) -> Result<(), Memory>
-        ensures { OnOk result (out.new ≡ out.old ++ label_of self.now blank.now) };
-}
 
 /// The label of a blank node: the text by which statements name it, and its label in a line.
 #[derive(Clone, Debug, Drop, PartialEq, Eq)]
@@ -88,19 +78,5 @@ impl TextLabels {
         ensures differ { AllDiffer (map (λ l. l.blank) self.now) }
     {
         self.labels.len()
-    }
-}
-
-/// The empty text for a blank node that has no label.
-impl BlankLabels for TextLabels {
-    ghost use Rattle.nquads.specs.Texts.{label_text};
-
-    ghost label_of = { label_text };
-
-    fn push_label(&self, out: &mut Text, blank: &str) -> Result<(), Memory> {
-        match self.get(blank) {
-            Some(label) => out.push_str(label.as_str()),
-            None => Ok(()),
-        }
     }
 }

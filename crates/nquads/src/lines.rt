@@ -4,11 +4,12 @@ ghost use Rattle.std.specs.Prelude.{◌≡◌, List, ◌++◌, map, IfOk, OnOk};
 ghost use Rattle.std.specs.List.{concat};
 ghost use Rattle.base_types.specs.Sets.{SameElements};
 ghost use Rattle.nquads.specs.Terms.{Statement};
-ghost use Rattle.nquads.specs.Spelling.{blank_text, text_quad};
+ghost use Rattle.nquads.specs.Spelling.{text_quad};
 ghost use Rattle.nquads.specs.Lines.{line, canonical_lines, canonical_text};
-ghost use Rattle.nquads.specs.Texts.{is_blank, label_in, label_text, graph_part_text, part_text, text_line};
+ghost use Rattle.nquads.specs.Texts.{label_in, label_text};
+ghost use Rattle.nquads.specs.Internal.TextLines.{is_blank, graph_part_text, part_text, text_line};
 
-use crate::labels::{BlankLabels, TextLabels};
+use crate::labels::TextLabels;
 use crate::quads::{TextQuad, TextQuads};
 use crate::spelling::text_with_room;
 use base_types::{Memory, Sequence, Text};
@@ -65,7 +66,7 @@ pub fn join(alloc: Global, texts: &[Text]) -> Result<Vec<u8>, Memory>
 }
 
 /// Whether a part of a text quad is a blank node.
-pub fn is_blank(part: &Text) -> bool
+fn is_blank(part: &Text) -> bool
     ensures { result ≡ is_blank part.now }
 {
     part.as_bytes().first() == Some(&b'_')
@@ -77,17 +78,16 @@ pub fn is_blank(part: &Text) -> bool
 /// # Errors
 ///
 /// `Memory`: there is no memory for the line.
-pub fn line_of<L: BlankLabels>(alloc: Global, quad: &TextQuad, labels: &L) -> Result<Text, Memory>
-    ensures line { (s : Statement) → quad.now ≡ text_quad s
-        → IfOk result (λ t. t ≡ line (λ b. L.label_of labels.now (blank_text b)) s) }
-    ensures text { IfOk result (λ t. t ≡ text_line (L.label_of labels.now) quad.now) }
+pub fn line_of(alloc: Global, quad: &TextQuad, labels: &TextLabels) -> Result<Text, Memory>
+    ensures { (s : Statement) → quad.now ≡ text_quad s
+        → IfOk result (λ t. t ≡ line (label_in labels.now) s) }
 {
     let line = write_line(alloc, quad, labels)?;
     Ok(line)
 }
 
-fn write_line<L: BlankLabels>(alloc: Global, quad: &TextQuad, labels: &L) -> Result<Text, Memory>
-    ensures { IfOk result (λ t. t ≡ text_line (L.label_of labels.now) quad.now) }
+fn write_line(alloc: Global, quad: &TextQuad, labels: &TextLabels) -> Result<Text, Memory>
+    ensures { IfOk result (λ t. t ≡ text_line (label_text labels.now) quad.now) }
 {
     let mut out = text_with_room(alloc, room_for(quad))?;
     push_part(&mut out, &quad.subject, labels)?;
@@ -129,12 +129,8 @@ fn room_for(quad: &TextQuad) -> usize {
 }
 
 /// The graph and a space, or nothing for the default graph.
-fn push_graph<L: BlankLabels>(
-    out: &mut Text,
-    graph: &Option<Text>,
-    labels: &L,
-) -> Result<(), Memory>
-    ensures { OnOk result (out.new ≡ out.old ++ graph_part_text (L.label_of labels.now) graph.now) }
+fn push_graph(out: &mut Text, graph: &Option<Text>, labels: &TextLabels) -> Result<(), Memory>
+    ensures { OnOk result (out.new ≡ out.old ++ graph_part_text (label_text labels.now) graph.now) }
 {
     if let Some(graph) = graph {
         push_part(out, graph, labels)?;
@@ -143,13 +139,23 @@ fn push_graph<L: BlankLabels>(
     Ok(())
 }
 
-/// A part of a line: `_:` and the label of a blank node, and any other part as it is spelled.
-fn push_part<L: BlankLabels>(out: &mut Text, part: &Text, labels: &L) -> Result<(), Memory>
-    ensures { OnOk result (out.new ≡ out.old ++ part_text (L.label_of labels.now) part.now) }
+/// A part of a line: `_:` and the label of a blank node, which is the empty text where it has none,
+/// and any other part as it is spelled.
+fn push_part(out: &mut Text, part: &Text, labels: &TextLabels) -> Result<(), Memory>
+    ensures { OnOk result (out.new ≡ out.old ++ part_text (label_text labels.now) part.now) }
 {
-    if is_blank(part) {
-        out.push_str("_:")?;
-        return labels.push_label(out, part.as_str());
+    if !is_blank(part) {
+        return out.push_str(part.as_str());
     }
-    out.push_str(part.as_str())
+    out.push_str("_:")?;
+    push_label(out, part.as_str(), labels)
+}
+
+fn push_label(out: &mut Text, blank: &str, labels: &TextLabels) -> Result<(), Memory>
+    ensures { OnOk result (out.new ≡ out.old ++ label_text labels.now blank.now) }
+{
+    match labels.get(blank) {
+        Some(label) => out.push_str(label.as_str()),
+        None => Ok(()),
+    }
 }

@@ -8,3 +8,4 @@ pub mod CanonicalTexts
 pub mod WorkedRuns
 pub mod Answering
 pub mod Clauses
+pub mod Covering

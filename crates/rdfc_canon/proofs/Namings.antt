@@ -4,13 +4,14 @@ use Rattle.std.specs.List.{AllZip, list_any}
 use Rattle.std.proofs.lemmas.List.Elements.{Contains-append_left}
 use Rattle.std.proofs.lemmas.List.Sorted.{IsPermutation-middle}
 use Rattle.base_types.specs.Sets.{AllDiffer}
+use Rattle.digest_mac.specs.declared.hash.Hash.{Hash}
 use Rattle.nquads.proofs.ReadingElements.{AllDiffer-head}
 use Rattle.rdfc_ndegree.specs.Groups.{Group}
 use Rattle.rdfc_ndegree.specs.NDegree.{Outcome}
 use Rattle.rdfc_ndegree.specs.Run.{alone, if_alone, first_groups, take_issuer, take_issuers}
 use Rattle.rdfc_ndegree.specs.Table.{table_nodes}
 use Rattle.rdfc_ndegree.specs.declared.path.NodePath.{NodePath}
-use Rattle.rdfc_ndegree.specs.declared.table.NodeRow.{NodeRow}
+use Rattle.rdfc_ndegree.specs.Table.{NodeRow}
 use Rattle.rdfc_ndegree.proofs.Permutations.{AllDiffer-permutation}
 use Rattle.rdfc_ndegree.proofs.Labels.{alone-differ}
 use Rattle.rdfc_ndegree.proofs.Tables.{absent-any}
@@ -18,19 +19,19 @@ use Rattle.rdfc_ndegree.specs.NumberIssuers.{issue_number}
 use Rattle.rdfc_ndegree.specs.Internal.Issuing.{issue_numbers}
 use Rattle.rdfc_canon.specs.Internal.Numbering.{issue_paths, IsPathOf}
 
-module _ (rows : List NodeRow) where
-  pub name_all-take : (c ns : List ℕ) → issue_numbers c ns ≡ take_issuer (table_nodes rows) c ns
+module _ (algorithm : Hash) (rows : List NodeRow) where
+  pub name_all-take : (c ns : List ℕ) → issue_numbers c ns ≡ take_issuer (table_nodes algorithm rows) c ns
   unfolding table_nodes
   name_all-take c [] = refl
   name_all-take c (n ∷ ns) = name_all-take (issue_number c n) ns
 
-  pub name_each-take : (c : List ℕ) (ps : List NodePath) (os : List (Outcome ℕ)) → AllZip IsPathOf ps os → issue_paths c ps ≡ take_issuers (table_nodes rows) c os
+  pub name_each-take : (c : List ℕ) (ps : List NodePath) (os : List (Outcome ℕ)) → AllZip IsPathOf ps os → issue_paths c ps ≡ take_issuers (table_nodes algorithm rows) c os
   name_each-take c [] [] z = refl
   name_each-take c [] (o ∷ os) z = absurd z
   name_each-take c (p ∷ ps) [] z = absurd z
   name_each-take c (p ∷ ps) (o ∷ os) z =
       ap (λ d. issue_paths d ps) (ap (issue_numbers c) z.0.issuer ∙ name_all-take c o.issuer)
-      ∙ name_each-take (take_issuer (table_nodes rows) c o.issuer) ps os z.1
+      ∙ name_each-take (take_issuer (table_nodes algorithm rows) c o.issuer) ps os z.1
 
 -- numbers issued for two lists are issued for the first and then for the second
 pub name_all-append : (c xs ys : List ℕ) → issue_numbers c (xs ++ ys) ≡ issue_numbers (issue_numbers c xs) ys
@@ -47,8 +48,8 @@ name_all-differ c (n ∷ ns) a =
     ap (λ b. issue_numbers (cond b c (c ++ n ∷ [])) ns) none ∙ name_all-differ (c ++ n ∷ []) ns (subst AllDiffer (sym moved) a) ∙ moved
 
 -- the nodes with a hash of their own are issued in hash order, each once
-pub alone-named : (rows : List NodeRow) (gs : List (Group ℕ)) → gs ≡ first_groups (table_nodes rows) → issue_numbers [] (alone gs) ≡ alone (first_groups (table_nodes rows))
-alone-named rows gs e = ap (λ hs. issue_numbers [] (alone hs)) e ∙ name_all-differ [] (alone (first_groups (table_nodes rows))) (alone-differ (table_nodes rows))
+pub alone-named : (algorithm : Hash) (rows : List NodeRow) (gs : List (Group ℕ)) → gs ≡ first_groups (table_nodes algorithm rows) → issue_numbers [] (alone gs) ≡ alone (first_groups (table_nodes algorithm rows))
+alone-named algorithm rows gs e = ap (λ hs. issue_numbers [] (alone hs)) e ∙ name_all-differ [] (alone (first_groups (table_nodes algorithm rows))) (alone-differ (table_nodes algorithm rows))
 
 -- the members of a group of one, and of any other
 pub alone-one : (c : List ℕ) (ms : List ℕ) (rest : List ℕ) → length ms ≡ 1 → issue_numbers c (if_alone ms ++ rest) ≡ issue_numbers (issue_numbers c ms) rest

@@ -7,8 +7,8 @@ use Rattle.nquads.specs.Lines.{canonical_text}
 use Rattle.nquads.proofs.ReadingBlanks.{rename-itself}
 use Rattle.rdfc_ndegree.specs.Issuers.{canonical_id}
 use Rattle.rdfc_ndegree.specs.Datasets.{nodes_of}
-use Rattle.rdfc_ndegree.specs.Run.{MeetsTie, WorkOver, DepthOver, IsCanonicalIssuer}
-use Rattle.rdfc_ndegree.proofs.Renamed.{MeetsTie-renamed, WorkOver-renamed, DepthOver-renamed, HasLabels-renamed, labels-StandsIn, canonical_text-renamed}
+use Rattle.rdfc_ndegree.specs.Run.{MeetsTie, WorkOver, IsCanonicalIssuer}
+use Rattle.rdfc_ndegree.proofs.Renamed.{MeetsTie-renamed, WorkOver-renamed, HasLabels-renamed, labels-StandsIn, canonical_text-renamed}
 use Rattle.rdfc_ndegree.proofs.RunAgree.{labels-unique}
 
 one_to_one : (q : List Statement) → IsOneToOne (λ b. b) q
@@ -31,9 +31,6 @@ module _ (digest : List ℕ → List ℕ) (q p : List Statement) (s : IsPermutat
 
   pub ordered_work : (n : ℕ) → WorkOver (nodes_of digest q) n ↔ WorkOver (nodes_of digest p) n
   ordered_work n = WorkOver-renamed digest (λ b. b) q p (one_to_one q) renamed n
-
-  pub ordered_depth : (n : ℕ) → DepthOver (nodes_of digest q) n ↔ DepthOver (nodes_of digest p) n
-  ordered_depth n = DepthOver-renamed digest (λ b. b) q p (one_to_one q) renamed n
 
   pub ordered_labels : (c : List Blank) → IsCanonicalIssuer (nodes_of digest q) c → IsCanonicalIssuer (nodes_of digest p) c
   ordered_labels c h = subst (IsCanonicalIssuer (nodes_of digest p)) (map-itself c) (HasLabels-renamed digest (λ b. b) q p (one_to_one q) renamed c h)

@@ -25,31 +25,31 @@ its_run : (q : List Statement) → IsRun (nodes_of (λ text. text) q) (run-exist
 its_run q = (run-exists (nodes-lawful (λ text. text) q)).1
 
 -- no blank node
-pub none-row : HasRun ([]) ([]) false 0 0
+pub none-row : HasRun ([]) ([]) false 0
 unfolding run-exists rounds-exist in_hash_order put_result results-exist IsNDegree-exists within_exists call_if groups_if choice_if IsChoice-from_trails trails_if evaluates_if nested_if best_of_some best_among better digits
 none-row = its_run ([])
 
 -- each blank node has a first-degree hash of its own: no call is made
-pub chain-row : HasRun (edge a b ∷ []) (a ∷ b ∷ []) false 0 0
+pub chain-row : HasRun (edge a b ∷ []) (a ∷ b ∷ []) false 0
 unfolding run-exists rounds-exist in_hash_order put_result results-exist IsNDegree-exists within_exists call_if groups_if choice_if IsChoice-from_trails trails_if evaluates_if nested_if best_of_some best_among better digits
 chain-row = its_run (edge a b ∷ [])
 
 -- two blank nodes that nothing tells apart, with no related node: a tie of two results
-pub twins-row : HasRun (leaf a ∷ leaf b ∷ []) (a ∷ b ∷ []) true 0 1
+pub twins-row : HasRun (leaf a ∷ leaf b ∷ []) (a ∷ b ∷ []) true 0
 unfolding run-exists rounds-exist in_hash_order put_result results-exist IsNDegree-exists within_exists call_if groups_if choice_if IsChoice-from_trails trails_if evaluates_if nested_if best_of_some best_among better digits
 twins-row = its_run (leaf a ∷ leaf b ∷ [])
 
 -- two that stand beside each other: each call makes a nested one
-pub pair-row : HasRun (edge a b ∷ edge b a ∷ []) (a ∷ b ∷ []) true 8 2
+pub pair-row : HasRun (edge a b ∷ edge b a ∷ []) (a ∷ b ∷ []) true 8
 unfolding run-exists rounds-exist in_hash_order put_result results-exist IsNDegree-exists within_exists call_if groups_if choice_if IsChoice-from_trails trails_if evaluates_if nested_if best_of_some best_among better digits
 pair-row = its_run (edge a b ∷ edge b a ∷ [])
 
 -- the two inner ones of four in a row have one first-degree hash, and their calls tell them apart
-pub row-row : HasRun (edge a b ∷ edge b c ∷ edge c d ∷ []) (a ∷ d ∷ b ∷ c ∷ []) false 8 2
+pub row-row : HasRun (edge a b ∷ edge b c ∷ edge c d ∷ []) (a ∷ d ∷ b ∷ c ∷ []) false 8
 unfolding run-exists rounds-exist in_hash_order put_result results-exist IsNDegree-exists within_exists call_if groups_if choice_if IsChoice-from_trails trails_if evaluates_if nested_if best_of_some best_among better digits
 row-row = its_run (edge a b ∷ edge b c ∷ edge c d ∷ [])
 
 -- three, each beside each other one: the two arrangements of a group have one path
-pub triangle-row : HasRun (edge a b ∷ edge b a ∷ edge b c ∷ edge c b ∷ edge a c ∷ edge c a ∷ []) (a ∷ b ∷ c ∷ []) true 60 2
+pub triangle-row : HasRun (edge a b ∷ edge b a ∷ edge b c ∷ edge c b ∷ edge a c ∷ edge c a ∷ []) (a ∷ b ∷ c ∷ []) true 60
 unfolding run-exists rounds-exist in_hash_order put_result results-exist IsNDegree-exists within_exists call_if groups_if choice_if IsChoice-from_trails trails_if evaluates_if nested_if best_of_some best_among better digits
 triangle-row = its_run (edge a b ∷ edge b a ∷ edge b c ∷ edge c b ∷ edge a c ∷ edge c a ∷ [])

@@ -25,8 +25,8 @@ leaf x = record {
 }
 
 -- The dataset has a run that gives the blank nodes with these labels the canonical identifiers in
--- this order, with this tie, work and depth.
-abbrev pub HasRun : List Statement → List (List ℕ) → Bool → ℕ → ℕ → Type 0
-HasRun q labels tie work depth =
+-- this order, with this tie and work.
+abbrev pub HasRun : List Statement → List (List ℕ) → Bool → ℕ → Type 0
+HasRun q labels tie work =
     IsRun (nodes_of (λ text. text) q)
-    (record { issuer = map blank_by_label labels; tie = tie; work = work; depth = depth })
+    (record { issuer = map blank_by_label labels; tie = tie; work = work })

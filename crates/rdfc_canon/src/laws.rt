@@ -8,7 +8,7 @@ ghost use Rattle.nquads.specs.Lines.{canonical_text};
 ghost use Rattle.rdfc_ndegree.specs.Issuers.{canonical_id};
 ghost use Rattle.rdfc_ndegree.specs.Datasets.{nodes_of};
 ghost use Rattle.rdfc_canon.specs.Worked.{HasRun, edge, leaf};
-ghost use Rattle.rdfc_canon.specs.Canon.{DepthOver, IsCanonicalIssuer, IsRun, MeetsTie, RunOutcome, WorkOver};
+ghost use Rattle.rdfc_canon.specs.Canon.{IsCanonicalIssuer, IsRun, MeetsTie, RunOutcome, WorkOver};
 
 /// Every dataset has a run, whatever the digest is.
 pub fn every_dataset_has_a_run()
@@ -35,8 +35,8 @@ pub fn a_run_names_each_blank_node_once()
 {}
 
 /// Labelling does not depend on the names of blank nodes: two datasets that are the same up to
-/// these meet ties alike, have the same work and depth over their runs, and without a tie the same
-/// labels and the same canonical text.
+/// these meet ties alike, have the same work over their runs, and without a tie the same labels and
+/// the same canonical text.
 pub fn names_do_not_matter()
     ensures ties { (digest : List ℕ → List ℕ) (q p : List Statement)
         → Same q p → IsDataset q → IsDataset p
@@ -44,9 +44,6 @@ pub fn names_do_not_matter()
     ensures work { (digest : List ℕ → List ℕ) (q p : List Statement) (n : ℕ)
         → Same q p → IsDataset q → IsDataset p
         → WorkOver (nodes_of digest q) n ↔ WorkOver (nodes_of digest p) n }
-    ensures depth { (digest : List ℕ → List ℕ) (q p : List Statement) (n : ℕ)
-        → Same q p → IsDataset q → IsDataset p
-        → DepthOver (nodes_of digest q) n ↔ DepthOver (nodes_of digest p) n }
     ensures labels { (digest : List ℕ → List ℕ) (q p : List Statement) (s : Same q p)
         (c : List Blank)
         → IsDataset q → IsDataset p
@@ -67,9 +64,6 @@ pub fn order_does_not_matter()
     ensures work { (digest : List ℕ → List ℕ) (q p : List Statement) (n : ℕ)
         → IsPermutation q p
         → WorkOver (nodes_of digest q) n ↔ WorkOver (nodes_of digest p) n }
-    ensures depth { (digest : List ℕ → List ℕ) (q p : List Statement) (n : ℕ)
-        → IsPermutation q p
-        → DepthOver (nodes_of digest q) n ↔ DepthOver (nodes_of digest p) n }
     ensures labels { (digest : List ℕ → List ℕ) (q p : List Statement) (c : List Blank)
         → IsPermutation q p
         → IsCanonicalIssuer (nodes_of digest q) c → IsCanonicalIssuer (nodes_of digest p) c }
@@ -104,18 +98,18 @@ pub fn one_text_is_of_one_dataset()
 /// of their own; two that nothing tells apart; two that point to each other; four in a row; three that
 /// all point to each other.
 pub fn worked_runs()
-    ensures nothing { HasRun ([]) ([]) false 0 0 }
+    ensures nothing { HasRun ([]) ([]) false 0 }
     ensures chain { HasRun (edge (codes "a") (codes "b") ∷ [])
-        (codes "a" ∷ codes "b" ∷ []) false 0 0 }
+        (codes "a" ∷ codes "b" ∷ []) false 0 }
     ensures twins { HasRun (leaf (codes "a") ∷ leaf (codes "b") ∷ [])
-        (codes "a" ∷ codes "b" ∷ []) true 0 1 }
+        (codes "a" ∷ codes "b" ∷ []) true 0 }
     ensures pair { HasRun (edge (codes "a") (codes "b") ∷ edge (codes "b") (codes "a") ∷ [])
-        (codes "a" ∷ codes "b" ∷ []) true 8 2 }
+        (codes "a" ∷ codes "b" ∷ []) true 8 }
     ensures row { HasRun (edge (codes "a") (codes "b") ∷ edge (codes "b") (codes "c") ∷
         edge (codes "c") (codes "d") ∷ [])
-        (codes "a" ∷ codes "d" ∷ codes "b" ∷ codes "c" ∷ []) false 8 2 }
+        (codes "a" ∷ codes "d" ∷ codes "b" ∷ codes "c" ∷ []) false 8 }
     ensures triangle { HasRun (edge (codes "a") (codes "b") ∷ edge (codes "b") (codes "a") ∷
         edge (codes "b") (codes "c") ∷ edge (codes "c") (codes "b") ∷
         edge (codes "a") (codes "c") ∷ edge (codes "c") (codes "a") ∷ [])
-        (codes "a" ∷ codes "b" ∷ codes "c" ∷ []) true 60 2 }
+        (codes "a" ∷ codes "b" ∷ codes "c" ∷ []) true 60 }
 {}

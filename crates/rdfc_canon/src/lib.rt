@@ -7,6 +7,10 @@
 #![tactic(auto)]
 
 mod canon;
+#[cfg(test)]
+mod cases;
+#[cfg(test)]
+mod chain_tests;
 pub mod laws;
 mod naming;
 mod numbering;

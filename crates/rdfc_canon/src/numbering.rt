@@ -1,12 +1,13 @@
 //! The run over the numbers of a table (RDF Dataset Canonicalization, 4.4.3, steps 3 to 5).
 ghost use Rattle.std.specs.Prelude.{◌≡◌, IfOk, IfErr};
 ghost use Rattle.rdfc_ndegree.specs.Internal.Evaluations.{IsFaultOf};
-ghost use Rattle.rdfc_ndegree.specs.Run.{DepthOver, WorkOver};
+ghost use Rattle.rdfc_ndegree.specs.Run.{WorkOver};
 ghost use Rattle.rdfc_ndegree.specs.Table.{IsClosed, table_nodes};
 ghost use Rattle.rdfc_canon.specs.Internal.Numbering.{AnswersNumbers};
 
 use crate::naming::issue_alone;
 use crate::rounds::round;
+use digest_mac::Hash;
 use rdfc_ndegree::{CanonFault, Canonical, Limits, Meter, NodeTable, first_groups};
 use std::alloc::Global;
 
@@ -21,17 +22,17 @@ pub struct CanonicalNumbers {
 
 /// Numbers the nodes of a table.
 ///
-/// Errors: `TooMuchWork` and `TooDeep`, where a run is over the limit, which they carry; `Memory`.
+/// Errors: `TooMuchWork`, where a run is over the limit, which it carries; `Memory`.
 pub fn run(
     alloc: Global,
-    table: &NodeTable,
+    table: &NodeTable<'_, '_>,
+    hash: Hash,
     limits: &Limits,
 ) -> Result<CanonicalNumbers, CanonFault>
     ensures closed { IsClosed table.now }
     ensures ok { IfOk result (λ n.
-        AnswersNumbers (table_nodes table.now) limits.now n.canonical n.tie n.work) }
-    ensures fault { IfErr result (IsFaultOf limits.now
-        (WorkOver (table_nodes table.now)) (DepthOver (table_nodes table.now))) }
+        AnswersNumbers (table_nodes hash table.now) limits.now n.canonical n.tie n.work) }
+    ensures fault { IfErr result (IsFaultOf limits.now (WorkOver (table_nodes hash table.now))) }
 {
     let groups = first_groups(alloc, table)?;
     let mut canonical = Canonical::new(alloc, table.len())?;
@@ -43,7 +44,7 @@ pub fn run(
     let mut tie = false;
     for group in &groups {
         let members = group.members.as_slice();
-        let tied = round(alloc, table, &mut canonical, members, &mut meter)?;
+        let tied = round(alloc, table, &mut canonical, members, hash, &mut meter)?;
         tie |= tied;
     }
     Ok(CanonicalNumbers {

@@ -3,21 +3,21 @@ ghost use Rattle.std.specs.Prelude.{◌≡◌, [], ◌++◌, slice_get, codes, d
 ghost use Rattle.rdfc_canon.specs.Internal.Labelling.{all_labels, with_label};
 
 use base_types::{Memory, Text};
-use nquads::TextLabels;
-use rdfc_ndegree::NodeTable;
+use nquads::{BlankHash, Labels};
 use std::alloc::Global;
 
-/// The labels of the nodes, c14n0, c14n1 and so on in this order.
+/// The labels of the nodes, c14n0, c14n1 and so on in this order. A node is a number, under which
+/// `firsts` names it.
 pub fn canonical_labels(
     alloc: Global,
-    table: &NodeTable,
+    firsts: &[BlankHash],
     order: &[usize],
-) -> Result<TextLabels, Memory>
-    ensures { IfOk result (λ labels. labels ≡ all_labels table.now [] order.now) }
+) -> Result<Labels, Memory>
+    ensures { IfOk result (λ labels. labels ≡ all_labels firsts.now [] order.now) }
 {
-    let mut labels = TextLabels::new(alloc);
+    let mut labels = Labels::new(alloc);
     for node in order {
-        push_label(alloc, &mut labels, table, *node)?;
+        push_label(alloc, &mut labels, firsts, *node)?;
     }
     Ok(labels)
 }
@@ -25,20 +25,20 @@ pub fn canonical_labels(
 /// Gives a node the next label, if it has none.
 fn push_label(
     alloc: Global,
-    labels: &mut TextLabels,
-    table: &NodeTable,
+    labels: &mut Labels,
+    firsts: &[BlankHash],
     node: usize,
 ) -> Result<(), Memory>
-    ensures { OnOk result (labels.new ≡ with_label labels.old (slice_get table.now node)) }
+    ensures { OnOk result (labels.new ≡ with_label labels.old (slice_get firsts.now node)) }
 {
-    let Some(row) = table.row(node) else {
+    let Some(first) = firsts.get(node) else {
         return Ok(());
     };
-    if labels.get(row.blank.as_str()).is_some() {
+    if labels.get(first.blank).is_some() {
         return Ok(());
     }
     let text = canonical_id(alloc, labels.len())?;
-    labels.push(row.blank.clone()?, text)
+    labels.push(first.blank, text)
 }
 
 /// `c14n` and a number (RDF Dataset Canonicalization, 4.5).

@@ -4,9 +4,10 @@ ghost use Rattle.rdfc_ndegree.specs.Internal.Evaluations.{IsFaultOf};
 ghost use Rattle.rdfc_ndegree.specs.Answers.{spending};
 ghost use Rattle.rdfc_ndegree.specs.Run.{lacking};
 ghost use Rattle.rdfc_ndegree.specs.Table.{IsClosed, table_nodes};
-ghost use Rattle.rdfc_canon.specs.Internal.Numbering.{AnswersHashes, AnswersRound, HashesDeep, HashesOver, neighbours_tie, next_has};
+ghost use Rattle.rdfc_canon.specs.Internal.Numbering.{AnswersHashes, AnswersRound, HashesOver, neighbours_tie, next_has};
 
 use crate::naming::issue_paths;
+use digest_mac::{Hash, HexDigest};
 use rdfc_ndegree::{
     CanonFault, Canonical, Memory, Meter, NodePath, NodeTable, Sequence, hash_n_degree,
 };
@@ -18,9 +19,10 @@ use std::alloc::Global;
 /// Errors: those of `hash_n_degree`.
 pub fn round(
     alloc: Global,
-    table: &NodeTable,
+    table: &NodeTable<'_, '_>,
     canonical: &mut Canonical,
     members: &[usize],
+    hash: Hash,
     meter: &mut Meter,
 ) -> Result<bool, CanonFault>
     requires closed { IsClosed table.now }
@@ -29,15 +31,13 @@ pub fn round(
     ensures kept { meter.old.spent ≤ meter.old.limits.work
         → IfOk result (λ _. meter.new.spent ≤ meter.old.limits.work) }
     ensures ok { IfOk result (λ tie.
-        AnswersRound (table_nodes table.now) canonical.old members.now canonical.new tie
-        (spending meter.old meter.new 1)) }
+        AnswersRound (table_nodes hash table.now) canonical.old members.now canonical.new tie
+        (spending meter.old meter.new)) }
     ensures fault { IfErr result (IsFaultOf meter.old.limits
-        (HashesOver (table_nodes table.now) canonical.old
-        (lacking (table_nodes table.now) canonical.old members.now) meter.old.spent)
-        (HashesDeep (table_nodes table.now) canonical.old
-        (lacking (table_nodes table.now) canonical.old members.now))) }
+        (HashesOver (table_nodes hash table.now) canonical.old
+        (lacking (table_nodes hash table.now) canonical.old members.now) meter.old.spent)) }
 {
-    let mut paths = hash_members(alloc, table, canonical, members, meter)?;
+    let mut paths = hash_members(alloc, table, canonical, members, hash, meter)?;
     paths.sort_unstable_by_key(
         |path: &NodePath|
             ensures { result ≡ path.entry.now.hash }
@@ -52,9 +52,10 @@ pub fn round(
 /// it alone.
 fn hash_members(
     alloc: Global,
-    table: &NodeTable,
+    table: &NodeTable<'_, '_>,
     canonical: &Canonical,
     members: &[usize],
+    hash: Hash,
     meter: &mut Meter,
 ) -> Result<Vec<NodePath>, CanonFault>
     requires closed { IsClosed table.now }
@@ -63,20 +64,18 @@ fn hash_members(
     ensures kept { meter.old.spent ≤ meter.old.limits.work
         → IfOk result (λ _. meter.new.spent ≤ meter.old.limits.work) }
     ensures ok { IfOk result (λ paths.
-        AnswersHashes (table_nodes table.now) canonical.now
-        (lacking (table_nodes table.now) canonical.now members.now) paths.items
-        (spending meter.old meter.new 1)) }
+        AnswersHashes (table_nodes hash table.now) canonical.now
+        (lacking (table_nodes hash table.now) canonical.now members.now) paths.items
+        (spending meter.old meter.new)) }
     ensures fault { IfErr result (IsFaultOf meter.old.limits
-        (HashesOver (table_nodes table.now) canonical.now
-        (lacking (table_nodes table.now) canonical.now members.now) meter.old.spent)
-        (HashesDeep (table_nodes table.now) canonical.now
-        (lacking (table_nodes table.now) canonical.now members.now))) }
+        (HashesOver (table_nodes hash table.now) canonical.now
+        (lacking (table_nodes hash table.now) canonical.now members.now) meter.old.spent)) }
 {
     let mut paths = Vec::new(alloc);
     for member in members {
         if canonical.number(*member).is_none() {
             let issuer = issuer_of(alloc, *member)?;
-            let path = hash_n_degree(alloc, table, canonical, *member, issuer, 1, meter)?;
+            let path = hash_n_degree(alloc, table, canonical, *member, issuer, hash, meter)?;
             paths.push(path)?;
         }
     }
@@ -98,7 +97,7 @@ fn meets_tie(paths: &[NodePath]) -> bool
 {
     let mut rest = paths;
     while let Some((path, later)) = rest.split_first() {
-        if path.tie || next_has(later, &path.hash) {
+        if path.tie || next_has(later, path.hash) {
             return true;
         }
         rest = later;
@@ -107,11 +106,11 @@ fn meets_tie(paths: &[NodePath]) -> bool
 }
 
 /// Whether the first result has this hash.
-fn next_has(paths: &[NodePath], hash: &[u8; 64]) -> bool
-    ensures { result ≡ next_has hash.now paths.now }
+fn next_has(paths: &[NodePath], hash: HexDigest) -> bool
+    ensures { result ≡ next_has hash paths.now }
 {
     match paths.first() {
-        Some(path) => path.hash == *hash,
+        Some(path) => path.hash == hash,
         None => false,
     }
 }

@@ -1,361 +1,53 @@
-//! Worked datasets, within exactly their limits, renamed and reordered.
-use crate::{Canon, CanonFault, Limits, canonicalise};
-use nquads::{Text, TextQuad, TextQuads};
-use rdfc_ndegree::Memory;
+//! Worked datasets, by either hash, within exactly their limits of work, renamed and reordered.
+use crate::cases::{CASES, Case, Row, Want};
+use crate::{Canon, CanonFault, Limits, Memory, canonicalise};
+use bumpalo::Bump;
+use digest_mac::Hash;
+use nquads::{Text, read};
 use std::alloc::Global;
+use term_store::{TermId, Terms};
 
-/// Subject, predicate, object, and the graph, or the empty text for the default graph.
-type Row = (&'static str, &'static str, &'static str, &'static str);
-
-/// A dataset with its canonical lines, its blank nodes in the order of their labels, and what a run
-/// meets and takes.
-struct Case {
-    name: &'static str,
-    rows: &'static [Row],
-    lines: &'static [&'static str],
-    order: &'static [&'static str],
-    tie: bool,
-    work: u64,
-    depth: u64,
+/// Names of the blank nodes, and whether the statements are written from the last to the first.
+struct Form {
+    names: [&'static str; 11],
+    is_reversed: bool,
 }
 
-const P: &str = "<https://ex.org/v#p>";
-
-const Q: &str = "<https://ex.org/v#q>";
-
-const G: &str = "<https://ex.org/g>";
-
-const H: &str = "<https://ex.org/h>";
-
-const VC: &str = "<urn:vc:1>";
-
-/// The names of the blank nodes below, then other names for them.
-const NAMES: [[&str; 10]; 3] = [
-    [
-        "_:n0", "_:n1", "_:n2", "_:n3", "_:n4", "_:n5", "_:n6", "_:n7", "_:n8", "_:n9",
-    ],
-    [
-        "_:n9", "_:n8", "_:n7", "_:n6", "_:n5", "_:n4", "_:n3", "_:n2", "_:n1", "_:n0",
-    ],
-    [
-        "_:nq", "_:ec14n0", "_:na", "_:g/0", "_:nz", "_:n7", "_:nb", "_:e3", "_:nm", "_:n0",
-    ],
-];
-
-// Lines, order, work and depth come from two other programs: one follows the standard step by step,
-// the other evaluates every arrangement to its end. They give the same for the renamed datasets.
-const CASES: [Case; 17] = [
-    Case {
-        name: "no statement",
-        rows: &[],
-        lines: &[],
-        order: &[],
-        tie: false,
-        work: 0,
-        depth: 0,
+/// The names of the blank nodes in the datasets, then other names for them.
+const FORMS: [Form; 3] = [
+    Form {
+        names: [
+            "_:a", "_:n0", "_:n1", "_:n2", "_:n3", "_:n4", "_:n5", "_:n6", "_:n7", "_:n8", "_:n9",
+        ],
+        is_reversed: false,
     },
-    Case {
-        name: "one blank node",
-        rows: &[("_:n0", P, "\"v\"", "")],
-        lines: &["_:c14n0 <https://ex.org/v#p> \"v\" .\n"],
-        order: &["_:n0"],
-        tie: false,
-        work: 0,
-        depth: 0,
+    Form {
+        names: [
+            "_:b", "_:n9", "_:n8", "_:n7", "_:n6", "_:n5", "_:n4", "_:n3", "_:n2", "_:n1", "_:n0",
+        ],
+        is_reversed: true,
     },
-    Case {
-        name: "two like nodes",
-        rows: &[("_:n0", P, "\"v\"", ""), ("_:n1", P, "\"v\"", "")],
-        lines: &[
-            "_:c14n0 <https://ex.org/v#p> \"v\" .\n",
-            "_:c14n1 <https://ex.org/v#p> \"v\" .\n",
+    Form {
+        names: [
+            "_:c14n1", "_:q", "_:c14n0", "_:a", "_:g0", "_:z", "_:n7", "_:b", "_:e3", "_:m", "_:n0",
         ],
-        order: &["_:n0", "_:n1"],
-        tie: true,
-        work: 0,
-        depth: 1,
-    },
-    Case {
-        name: "two chains with other ends",
-        rows: &[
-            ("_:n0", P, "_:n1", ""),
-            ("_:n1", P, "_:n2", ""),
-            ("_:n2", P, "\"x\"", ""),
-            ("_:n3", P, "_:n4", ""),
-            ("_:n4", P, "_:n5", ""),
-            ("_:n5", P, "\"y\"", ""),
-        ],
-        lines: &[
-            "_:c14n0 <https://ex.org/v#p> \"y\" .\n",
-            "_:c14n1 <https://ex.org/v#p> \"x\" .\n",
-            "_:c14n2 <https://ex.org/v#p> _:c14n3 .\n",
-            "_:c14n3 <https://ex.org/v#p> _:c14n0 .\n",
-            "_:c14n4 <https://ex.org/v#p> _:c14n5 .\n",
-            "_:c14n5 <https://ex.org/v#p> _:c14n1 .\n",
-        ],
-        order: &["_:n5", "_:n2", "_:n3", "_:n4", "_:n0", "_:n1"],
-        tie: false,
-        work: 6,
-        depth: 2,
-    },
-    Case {
-        name: "two nodes that point to each other",
-        rows: &[("_:n0", P, "_:n1", ""), ("_:n1", P, "_:n0", "")],
-        lines: &[
-            "_:c14n0 <https://ex.org/v#p> _:c14n1 .\n",
-            "_:c14n1 <https://ex.org/v#p> _:c14n0 .\n",
-        ],
-        order: &["_:n0", "_:n1"],
-        tie: true,
-        work: 8,
-        depth: 2,
-    },
-    Case {
-        name: "a hub with two like rays",
-        rows: &[
-            ("_:n0", P, "_:n1", ""),
-            ("_:n0", P, "_:n2", ""),
-            ("_:n1", P, "\"v\"", ""),
-            ("_:n2", P, "\"v\"", ""),
-        ],
-        lines: &[
-            "_:c14n0 <https://ex.org/v#p> _:c14n1 .\n",
-            "_:c14n0 <https://ex.org/v#p> _:c14n2 .\n",
-            "_:c14n1 <https://ex.org/v#p> \"v\" .\n",
-            "_:c14n2 <https://ex.org/v#p> \"v\" .\n",
-        ],
-        order: &["_:n0", "_:n1", "_:n2"],
-        tie: true,
-        work: 2,
-        depth: 1,
-    },
-    Case {
-        name: "a cycle of four",
-        rows: &[
-            ("_:n0", P, "_:n1", ""),
-            ("_:n1", P, "_:n2", ""),
-            ("_:n2", P, "_:n3", ""),
-            ("_:n3", P, "_:n0", ""),
-        ],
-        lines: &[
-            "_:c14n0 <https://ex.org/v#p> _:c14n1 .\n",
-            "_:c14n1 <https://ex.org/v#p> _:c14n2 .\n",
-            "_:c14n2 <https://ex.org/v#p> _:c14n3 .\n",
-            "_:c14n3 <https://ex.org/v#p> _:c14n0 .\n",
-        ],
-        order: &["_:n0", "_:n1", "_:n2", "_:n3"],
-        tie: true,
-        work: 32,
-        depth: 4,
-    },
-    Case {
-        name: "two equal components",
-        rows: &[("_:n0", P, "_:n1", ""), ("_:n2", P, "_:n3", "")],
-        lines: &[
-            "_:c14n0 <https://ex.org/v#p> _:c14n1 .\n",
-            "_:c14n2 <https://ex.org/v#p> _:c14n3 .\n",
-        ],
-        order: &["_:n0", "_:n1", "_:n2", "_:n3"],
-        tie: true,
-        work: 4,
-        depth: 2,
-    },
-    Case {
-        name: "one triple in two graphs",
-        rows: &[
-            ("_:n0", P, "_:n1", H),
-            ("_:n0", P, "_:n1", G),
-            ("_:n1", P, "\"x\"", ""),
-        ],
-        lines: &[
-            "_:c14n0 <https://ex.org/v#p> _:c14n1 <https://ex.org/g> .\n",
-            "_:c14n0 <https://ex.org/v#p> _:c14n1 <https://ex.org/h> .\n",
-            "_:c14n1 <https://ex.org/v#p> \"x\" .\n",
-        ],
-        order: &["_:n0", "_:n1"],
-        tie: false,
-        work: 0,
-        depth: 0,
-    },
-    Case {
-        name: "a node that points to itself",
-        rows: &[("_:n0", P, "_:n0", ""), ("_:n0", P, "_:n1", "")],
-        lines: &[
-            "_:c14n0 <https://ex.org/v#p> _:c14n0 .\n",
-            "_:c14n0 <https://ex.org/v#p> _:c14n1 .\n",
-        ],
-        order: &["_:n0", "_:n1"],
-        tie: false,
-        work: 0,
-        depth: 0,
-    },
-    Case {
-        name: "a blank graph",
-        rows: &[
-            ("<https://ex.org/s>", P, "\"v\"", "_:n0"),
-            ("_:n0", P, "_:n1", ""),
-        ],
-        lines: &[
-            "<https://ex.org/s> <https://ex.org/v#p> \"v\" _:c14n0 .\n",
-            "_:c14n0 <https://ex.org/v#p> _:c14n1 .\n",
-        ],
-        order: &["_:n0", "_:n1"],
-        tie: false,
-        work: 0,
-        depth: 0,
-    },
-    Case {
-        name: "cycles of three and four",
-        rows: &[
-            ("_:n0", P, "_:n1", ""),
-            ("_:n1", P, "_:n2", ""),
-            ("_:n2", P, "_:n0", ""),
-            ("_:n3", P, "_:n4", ""),
-            ("_:n4", P, "_:n5", ""),
-            ("_:n5", P, "_:n6", ""),
-            ("_:n6", P, "_:n3", ""),
-            ("_:n0", P, "\"x\"", ""),
-        ],
-        lines: &[
-            "_:c14n0 <https://ex.org/v#p> \"x\" .\n",
-            "_:c14n0 <https://ex.org/v#p> _:c14n2 .\n",
-            "_:c14n1 <https://ex.org/v#p> _:c14n0 .\n",
-            "_:c14n2 <https://ex.org/v#p> _:c14n1 .\n",
-            "_:c14n3 <https://ex.org/v#p> _:c14n4 .\n",
-            "_:c14n4 <https://ex.org/v#p> _:c14n5 .\n",
-            "_:c14n5 <https://ex.org/v#p> _:c14n6 .\n",
-            "_:c14n6 <https://ex.org/v#p> _:c14n3 .\n",
-        ],
-        order: &["_:n0", "_:n2", "_:n1", "_:n3", "_:n4", "_:n5", "_:n6"],
-        tie: true,
-        work: 40,
-        depth: 4,
-    },
-    Case {
-        name: "a credential",
-        rows: &[
-            (
-                VC,
-                "<http://www.w3.org/1999/02/22-rdf-syntax-ns#type>",
-                "<https://ex.org/vc#VerifiableCredential>",
-                "",
-            ),
-            (VC, "<https://ex.org/vc#credentialSubject>", "_:n0", ""),
-            (VC, "<https://ex.org/vc#issuer>", "<https://ex.org/i>", ""),
-            ("_:n0", "<https://schema.org/name>", "\"Ann\"", ""),
-        ],
-        lines: &[
-            "<urn:vc:1> <http://www.w3.org/1999/02/22-rdf-syntax-ns#type> <https://ex.org/vc#VerifiableCredential> .\n",
-            "<urn:vc:1> <https://ex.org/vc#credentialSubject> _:c14n0 .\n",
-            "<urn:vc:1> <https://ex.org/vc#issuer> <https://ex.org/i> .\n",
-            "_:c14n0 <https://schema.org/name> \"Ann\" .\n",
-        ],
-        order: &["_:n0"],
-        tie: false,
-        work: 0,
-        depth: 0,
-    },
-    Case {
-        name: "calls four deep",
-        rows: &[
-            ("_:n4", P, "_:n1", ""),
-            ("_:n1", P, "_:n1", H),
-            ("_:n2", P, "_:n5", ""),
-            ("_:n2", P, "_:n1", H),
-            ("_:n3", P, "_:n3", H),
-            ("_:n4", P, "_:n3", H),
-            ("_:n0", P, "_:n5", H),
-            ("_:n5", P, "_:n5", H),
-        ],
-        lines: &[
-            "_:c14n0 <https://ex.org/v#p> _:c14n3 <https://ex.org/h> .\n",
-            "_:c14n1 <https://ex.org/v#p> _:c14n1 <https://ex.org/h> .\n",
-            "_:c14n2 <https://ex.org/v#p> _:c14n3 .\n",
-            "_:c14n2 <https://ex.org/v#p> _:c14n4 <https://ex.org/h> .\n",
-            "_:c14n3 <https://ex.org/v#p> _:c14n3 <https://ex.org/h> .\n",
-            "_:c14n4 <https://ex.org/v#p> _:c14n4 <https://ex.org/h> .\n",
-            "_:c14n5 <https://ex.org/v#p> _:c14n1 <https://ex.org/h> .\n",
-            "_:c14n5 <https://ex.org/v#p> _:c14n4 .\n",
-        ],
-        order: &["_:n0", "_:n3", "_:n2", "_:n5", "_:n1", "_:n4"],
-        tie: false,
-        work: 22,
-        depth: 4,
-    },
-    Case {
-        name: "a member twice in a group",
-        rows: &[
-            ("_:n3", P, "_:n2", "_:n3"),
-            ("_:n5", P, "_:n0", "_:n5"),
-            ("_:n5", Q, "_:n1", ""),
-            ("_:n4", Q, "_:n2", "_:n3"),
-            ("_:n1", Q, "_:n0", "_:n5"),
-        ],
-        lines: &[
-            "_:c14n0 <https://ex.org/v#q> _:c14n5 _:c14n2 .\n",
-            "_:c14n1 <https://ex.org/v#q> _:c14n4 _:c14n3 .\n",
-            "_:c14n2 <https://ex.org/v#p> _:c14n5 _:c14n2 .\n",
-            "_:c14n3 <https://ex.org/v#p> _:c14n4 _:c14n3 .\n",
-            "_:c14n3 <https://ex.org/v#q> _:c14n1 .\n",
-        ],
-        order: &["_:n4", "_:n1", "_:n3", "_:n5", "_:n0", "_:n2"],
-        tie: false,
-        work: 6,
-        depth: 1,
-    },
-    Case {
-        name: "blank graphs that are found in nowhere else",
-        rows: &[
-            ("_:n5", P, "\"x\"", ""),
-            ("_:n4", P, "_:n5", "_:n0"),
-            ("_:n2", P, "_:n1", "_:n3"),
-        ],
-        lines: &[
-            "_:c14n0 <https://ex.org/v#p> \"x\" .\n",
-            "_:c14n3 <https://ex.org/v#p> _:c14n0 _:c14n2 .\n",
-            "_:c14n5 <https://ex.org/v#p> _:c14n1 _:c14n4 .\n",
-        ],
-        order: &["_:n5", "_:n1", "_:n0", "_:n4", "_:n3", "_:n2"],
-        tie: false,
-        work: 8,
-        depth: 2,
-    },
-    Case {
-        name: "arrangements that differ, the first of them not the least",
-        rows: &[
-            ("_:n4", P, "_:n6", "_:n6"),
-            ("_:n3", Q, "_:n2", ""),
-            ("_:n7", P, "_:n9", "_:n9"),
-            ("_:n7", P, "_:n8", "_:n9"),
-            ("_:n4", P, "_:n5", "_:n5"),
-            ("_:n1", Q, "_:n8", ""),
-            ("_:n5", P, "_:n1", ""),
-            ("_:n9", Q, "_:n2", "_:n2"),
-            ("_:n6", P, "_:n3", ""),
-        ],
-        lines: &[
-            "_:c14n2 <https://ex.org/v#q> _:c14n1 _:c14n1 .\n",
-            "_:c14n3 <https://ex.org/v#p> _:c14n0 _:c14n2 .\n",
-            "_:c14n3 <https://ex.org/v#p> _:c14n2 _:c14n2 .\n",
-            "_:c14n4 <https://ex.org/v#p> _:c14n5 _:c14n5 .\n",
-            "_:c14n4 <https://ex.org/v#p> _:c14n6 _:c14n6 .\n",
-            "_:c14n5 <https://ex.org/v#p> _:c14n7 .\n",
-            "_:c14n6 <https://ex.org/v#p> _:c14n8 .\n",
-            "_:c14n7 <https://ex.org/v#q> _:c14n0 .\n",
-            "_:c14n8 <https://ex.org/v#q> _:c14n1 .\n",
-        ],
-        order: &[
-            "_:n8", "_:n2", "_:n9", "_:n7", "_:n4", "_:n5", "_:n6", "_:n1", "_:n3",
-        ],
-        tie: false,
-        work: 23,
-        depth: 3,
+        is_reversed: true,
     },
 ];
+
+const HASHES: [Hash; 2] = [Hash::Sha256, Hash::Sha384];
+
+/// What is wanted of a dataset by this hash.
+fn wanted(case: &Case, hash: Hash) -> &Want {
+    match hash {
+        Hash::Sha256 => &case.sha256,
+        Hash::Sha384 => &case.sha384,
+    }
+}
 
 /// The term with its blank node named in another way.
-fn renamed(term: &'static str, form: &[&'static str; 10]) -> &'static str {
-    for (name, other) in NAMES[0].iter().zip(form) {
+fn renamed(term: &'static str, form: &Form) -> &'static str {
+    for (name, other) in FORMS[0].names.iter().zip(&form.names) {
         if term == *name {
             return other;
         }
@@ -363,127 +55,139 @@ fn renamed(term: &'static str, form: &[&'static str; 10]) -> &'static str {
     term
 }
 
-fn quad(alloc: Global, row: &Row, form: &[&'static str; 10]) -> Result<TextQuad, Memory> {
-    let graph = if row.3.is_empty() {
-        None
+/// Puts the line of a statement at the end.
+fn push_row(text: &mut Text, row: &Row, form: &Form) -> Result<(), Memory> {
+    text.push_str(renamed(row.0, form))?;
+    text.push_str(" ")?;
+    text.push_str(row.1)?;
+    text.push_str(" ")?;
+    text.push_str(renamed(row.2, form))?;
+    text.push_str(" ")?;
+    text.push_str(renamed(row.3, form))?;
+    text.push_str(" .\n")
+}
+
+/// The dataset in this form, as N-Quads.
+fn text_of(alloc: Global, rows: &[Row], form: &Form) -> Result<Text, Memory> {
+    let mut text = Text::new(alloc);
+    if form.is_reversed {
+        for row in rows.iter().rev() {
+            push_row(&mut text, row, form)?;
+        }
     } else {
-        Some(Text::from_str(alloc, renamed(row.3, form))?)
-    };
-    Ok(TextQuad {
-        subject: Text::from_str(alloc, renamed(row.0, form))?,
-        predicate: Text::from_str(alloc, row.1)?,
-        object: Text::from_str(alloc, renamed(row.2, form))?,
-        graph,
-    })
-}
-
-fn answer(
-    alloc: Global,
-    rows: &[Row],
-    form: &[&'static str; 10],
-    work: u64,
-    depth: u64,
-) -> Result<Canon, CanonFault> {
-    let mut quads = Vec::new(alloc);
-    for row in rows {
-        quads.push(quad(alloc, row, form)?)?;
+        for row in rows {
+            push_row(&mut text, row, form)?;
+        }
     }
-    let limits = Limits { work, depth };
-    canonicalise(alloc, &TextQuads::from_vec(quads), &limits)
+    Ok(text)
 }
 
-fn has_lines(canon: &Canon, wanted: &'static [&'static str]) -> bool {
-    for (line, want) in canon.lines.as_slice().iter().zip(wanted) {
+/// The labelling of a text of N-Quads.
+pub(crate) fn answer(
+    alloc: Global,
+    terms: &mut Terms<'_>,
+    text: &Text,
+    hash: Hash,
+    work: u64,
+) -> Result<Canon, CanonFault> {
+    match read(alloc, terms, text.as_bytes()) {
+        Ok(quads) => canonicalise(alloc, terms, &quads, hash, &Limits { work }),
+        Err(_) => Err(CanonFault::Memory),
+    }
+}
+
+fn has_lines(canon: &Canon, lines: &'static [&'static str]) -> bool {
+    for (line, want) in canon.lines.as_slice().iter().zip(lines) {
         if line.as_str() != *want {
             return false;
         }
     }
-    canon.lines.len() == wanted.len()
+    canon.lines.len() == lines.len()
+}
+
+/// Whether a number of the store is that of the blank node which a text of N-Quads names so.
+fn is_node(terms: &Terms<'_>, id: TermId, name: &str) -> bool {
+    if (id.index as usize) >= terms.len() {
+        return false;
+    }
+    match (terms.text(id).strip_prefix("_:n"), name.strip_prefix("_:")) {
+        (Some(text), Some(name)) => text == name,
+        _ => false,
+    }
 }
 
 /// Whether the labels are those of these blank nodes, in this order.
-fn has_order(canon: &Canon, wanted: &'static [&'static str], form: &[&'static str; 10]) -> bool {
-    for place in 0..wanted.len() {
+fn has_order(
+    terms: &Terms<'_>,
+    canon: &Canon,
+    order: &'static [&'static str],
+    form: &Form,
+) -> bool {
+    for place in 0..order.len() {
         let same = match canon.labels.at(place) {
-            Some((blank, _)) => blank == renamed(wanted[place], form),
+            Some((blank, _)) => is_node(terms, blank, renamed(order[place], form)),
             None => false,
         };
         if !same {
             return false;
         }
     }
-    canon.labels.len() == wanted.len()
+    canon.labels.len() == order.len()
 }
 
-fn is_refused(answer: Result<Canon, CanonFault>, fault: CanonFault) -> bool {
-    match answer {
-        Ok(_) => false,
-        Err(got) => got == fault,
-    }
+/// Whether the dataset in this form gives what stands in the case. Which of two equals comes first
+/// is free.
+fn is_as_stored(alloc: Global, case: &Case, form: &Form, hash: Hash) -> Result<bool, CanonFault> {
+    let arena = Bump::new(alloc);
+    let mut terms = Terms::new(alloc, &arena)?;
+    let text = text_of(alloc, case.rows, form)?;
+    let want = wanted(case, hash);
+    let canon = answer(alloc, &mut terms, &text, hash, want.work)?;
+    let labels = want.tie || has_order(&terms, &canon, want.order, form);
+    let lines = has_lines(&canon, want.lines);
+    Ok(lines && labels && canon.tie == want.tie && canon.work == want.work)
 }
 
-/// Whether the dataset, with its blank nodes so named, gives what stands in the case. Which of two
-/// equals comes first is free.
-fn is_as_stored(alloc: Global, case: &Case, form: &[&'static str; 10]) -> Result<bool, CanonFault> {
-    let canon = answer(alloc, case.rows, form, case.work, case.depth)?;
-    let labels = case.tie || has_order(&canon, case.order, form);
-    let lines = has_lines(&canon, case.lines);
-    Ok(lines && labels && canon.tie == case.tie && canon.work == case.work)
-}
-
-// Each dataset within exactly its limits, under each of the names.
+// Each dataset within exactly its limit, in each form.
 #[test]
 fn worked_datasets(rt: HostRuntime) -> Result<(), CanonFault> {
     for case in &CASES {
-        for form in &NAMES {
-            let same = is_as_stored(rt.alloc(), case, form)?;
-            assert!(rt; same, "{}", case.name);
-        }
-    }
-    Ok(())
-}
-
-// One arrangement, or one open call, less than it takes.
-#[test]
-fn limits_are_exact(rt: HostRuntime) -> Result<(), CanonFault> {
-    for case in &CASES {
-        if let Some(work) = case.work.checked_sub(1) {
-            let less = answer(rt.alloc(), case.rows, &NAMES[0], work, case.depth);
-            assert!(rt;
-                is_refused(less, CanonFault::TooMuchWork(work)),
-                "{}",
-                case.name
-            );
-        }
-        if let Some(depth) = case.depth.checked_sub(1) {
-            let less = answer(rt.alloc(), case.rows, &NAMES[0], case.work, depth);
-            assert!(rt;
-                is_refused(less, CanonFault::TooDeep(depth)),
-                "{}",
-                case.name
-            );
-        }
-    }
-    Ok(())
-}
-
-// Each of eight nodes points to the seven others.
-#[test]
-fn much_work_is_refused_at_once(rt: HostRuntime) -> Result<(), CanonFault> {
-    let alloc = rt.alloc();
-    let mut quads = Vec::new(alloc);
-    for from in &NAMES[0][..8] {
-        for to in &NAMES[0][..8] {
-            if from != to {
-                quads.push(quad(alloc, &(from, P, to, ""), &NAMES[0])?)?;
+        for form in &FORMS {
+            for hash in HASHES {
+                let same = is_as_stored(rt.alloc(), case, form, hash)?;
+                assert!(rt; same, "{}", case.name);
             }
         }
     }
-    let limits = Limits {
-        work: 100,
-        depth: 100,
-    };
-    let refused = canonicalise(alloc, &TextQuads::from_vec(quads), &limits);
-    assert!(rt; is_refused(refused, CanonFault::TooMuchWork(100)));
+    Ok(())
+}
+
+/// Whether a text of N-Quads is refused for this limit.
+pub(crate) fn is_over(
+    alloc: Global,
+    text: &Text,
+    hash: Hash,
+    work: u64,
+) -> Result<bool, CanonFault> {
+    let arena = Bump::new(alloc);
+    let mut terms = Terms::new(alloc, &arena)?;
+    match answer(alloc, &mut terms, text, hash, work) {
+        Ok(_) => Ok(false),
+        Err(fault) => Ok(fault == CanonFault::TooMuchWork(work)),
+    }
+}
+
+// One arrangement less than it takes.
+#[test]
+fn limits_are_exact(rt: HostRuntime) -> Result<(), CanonFault> {
+    for case in &CASES {
+        let text = text_of(rt.alloc(), case.rows, &FORMS[0])?;
+        for hash in HASHES {
+            if let Some(work) = wanted(case, hash).work.checked_sub(1) {
+                let over = is_over(rt.alloc(), &text, hash, work)?;
+                assert!(rt; over, "{}", case.name);
+            }
+        }
+    }
     Ok(())
 }

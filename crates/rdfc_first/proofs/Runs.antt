@@ -1,56 +1,52 @@
 -- Marked lines in order: the runs of one blank node, and what is digested of them.
-use Rattle.std.proofs.Common.{append-nil, ◌≡◌, ℕ, zero, suc, ◌+◌, ◌<◌, Bool, true, false, cond, List, [], ◌∷◌, ◌++◌, map, filter, take, drop, get_or, refl, sym, ap, ◌∙◌, subst, inl, inr, arith, Ordering, Contains, Some, bytes_eq, slice_get}
-use Rattle.std.proofs.lemmas.Bool.{false≢true}
+use Rattle.std.proofs.Common.{append-nil, append_assoc, ◌≡◌, ◌==◌, ℕ, zero, suc, ◌+◌, ◌<◌, ◌≤◌, Bool, true, false, cond, List, [], ◌∷◌, ◌++◌, map, filter, take, drop, get_or, refl, sym, ap, ◌∙◌, subst, inl, inr, ⊎_elim, arith, Ordering, Contains, Some, None, slice_get, nat_cmp}
+use Rattle.std.proofs.lemmas.Bool.{cases_lt, eqb-false, false_from_ne_true}
+use Rattle.std.proofs.lemmas.Bool.Decides.{Decides-eqb}
 use Rattle.std.specs.List.{AllByRecursion, concat, sum_by}
 use Rattle.std.specs.Prelude.{All}
 use Rattle.std.specs.List.Sorted.{IsPermutation, IsSorted, IsStrictlySortedBy}
 use Rattle.std.specs.Cmp.{IsTotalOrder}
-use Rattle.std.specs.Cmp.Lexicographic.{nat_list_cmp_total}
-use Rattle.std.specs.Ordering.{is_le, is_lt, ordering_reverse, ordering_then}
+use Rattle.std.specs.Ordering.{is_lt, ordering_then}
 use Rattle.std.specs.declared.cmp.Ordering.TheVariants.{Less}
-use Rattle.std.proofs.lemmas.Slice.Eq.{bytes_eq-Decides}
-use Rattle.std.proofs.lemmas.Map.Lookups.{exact_bytes}
+use Rattle.std.proofs.lemmas.Cmp.{ranked, by_ranked}
+use Rattle.std.specs.Cmp.{nat_cmp_is}
 use Rattle.std.proofs.lemmas.List.{map-append, take-append-drop}
 use Rattle.std.proofs.lemmas.List.Elements.{filter-append, recursion_from_All, Contains-append_left, Contains-append_right, Contains-append_cases}
 use Rattle.std.proofs.lemmas.List.Sums.{sum_by-cons}
 use Rattle.std.proofs.lemmas.List.Sorted.{sorted_far, ranks_by, sum_by-IsPermutation}
-use Rattle.base_types.specs.Order.{is_upto, in_order, sorted_set}
-use Rattle.base_types.specs.Sets.{SameElements}
-use Rattle.base_types.proofs.Lists.{get_or-next, Contains-here, Contains-there, Contains-cons_cases, Contains-from_map, AllByRecursion-contains, irreflexive}
-use Rattle.base_types.proofs.Orders.{text_cmp, is_upto-cmp, is_upto-refl, by_cmp, upto_if, less_upto, less_if, once, bytes_eq-false, in_order-only, InOrder, IsSorted-InOrder}
-use Rattle.base_types.proofs.Rising.{rising-rises, rising-same, rising-only}
-use Rattle.digest_mac.specs.Digests.{sha256_digits}
-use Rattle.nquads.specs.FirstDegree.{blank_hash}
+use Rattle.base_types.specs.Order.{is_upto, in_order}
+use Rattle.base_types.proofs.Lists.{get_or-next, Contains-nil, Contains-here, Contains-there, Contains-cons_cases, Contains-from_map, AllByRecursion-contains}
+use Rattle.base_types.proofs.Orders.{text_cmp, upto_if, once, in_order-only, InOrder, IsSorted-InOrder}
+use Rattle.term_store.specs.declared.store.TermId.{TermId}
 use Rattle.nquads.specs.declared.hashes.BlankHash.{BlankHash}
-use Rattle.nquads.proofs.ReadingElements.{All-from_contains}
 use Rattle.rdfc_first.specs.declared.mentions.MentionLine.{MentionLine}
 use Rattle.rdfc_first.specs.contracts.mentions.MentionLineOrd.TheImpl.Laws.{total-law}
-use Rattle.rdfc_first.specs.Internal.Grouping.{lines_for, hash_in, hashes_in, IsUptoLine, InBlankOrder, run_of}
+use Rattle.rdfc_first.specs.Internal.Grouping.{blank_hash, lines_for, IsHashOf, AreHashesOf, IsUptoLine, InBlankOrder, run_of}
 use Rattle.rdfc_first.proofs.Filters.{filter-all, filter-none, IsPermutation-from_counts}
 
-abbrev blank_of : MentionLine → List ℕ
+abbrev blank_of : MentionLine → TermId
 blank_of m = m.blank
+
+abbrev line_in : MentionLine → List ℕ
+line_in m = m.line
 
 -- ---- what a sort leaves is in order
 
 -- the order of the lines: by blank node, then by text
 abbrev pub line_cmp : MentionLine → MentionLine → Ordering
-line_cmp x y = ordering_then (text_cmp x.blank y.blank) (text_cmp x.line y.line)
+line_cmp x y = ordering_then (nat_cmp x.blank.index y.blank.index) (text_cmp x.line y.line)
 
 line_total : IsTotalOrder line_cmp
 line_total = total-law
 
 line_upto : (m n : MentionLine) → is_lt (line_cmp n m) ≡ false → IsUptoLine m n
 line_upto m n e =
-    by_cmp (IsUptoLine m n) n.blank m.blank
-    (λ f. let a : is_lt (line_cmp n m) ≡ true = ap (λ o. is_lt (ordering_then o (text_cmp n.line m.line))) f in absurd (cc))
-    (λ f.
-    let same : n.blank ≡ m.blank = exact_bytes n.blank m.blank f in
+    by_ranked (n.blank.index < m.blank.index) (n.blank.index ≡ m.blank.index) (m.blank.index < n.blank.index) (nat_cmp n.blank.index m.blank.index) (ranked n.blank.index m.blank.index _ refl)
+    (λ f l. let a : is_lt (line_cmp n m) ≡ true = ap (λ o. is_lt (ordering_then o (text_cmp n.line m.line))) f in absurd (cc))
+    (λ f l.
     let a : is_lt (line_cmp n m) ≡ is_lt (text_cmp n.line m.line) = ap (λ o. is_lt (ordering_then o (text_cmp n.line m.line))) f in
-    record { blanks = subst (λ b. is_upto m.blank b ≡ true) (sym same) (is_upto-refl m.blank); lines = λ g. upto_if m.line n.line (sym a ∙ e) })
-    (λ f.
-    let turned : text_cmp m.blank n.blank ≡ Less = nat_list_cmp_total.antisymm m.blank n.blank ∙ ap ordering_reverse f in
-    record { blanks = is_upto-cmp m.blank n.blank ∙ ap is_le turned; lines = λ g. absurd (irreflexive nat_list_cmp_total m.blank n.blank turned g) })
+    record { blanks = omega arith; lines = λ g. upto_if m.line n.line (sym a ∙ e) })
+    (λ f l. record { blanks = omega arith; lines = λ g. absurd (omega arith) })
 
 each_upto : (m : MentionLine) (ns : List MentionLine) → AllByRecursion (λ n. is_lt (line_cmp n m) ≡ false) ns → AllByRecursion (IsUptoLine m) ns
 each_upto m [] all = tt
@@ -71,174 +67,235 @@ InBlankOrder-drop zero ms up = up
 InBlankOrder-drop (suc n) [] up = tt
 InBlankOrder-drop (suc n) (m ∷ ms) up = InBlankOrder-drop n ms up.1
 
-run-all : (b : List ℕ) (ms : List MentionLine) → AllByRecursion (λ (m : MentionLine). bytes_eq m.blank b ≡ true) (take (run_of b ms) ms)
+-- the lines are those of the blank node; they are those of later ones
+abbrev AreOf : TermId → List MentionLine → Type 0
+AreOf b ms = AllByRecursion (λ (m : MentionLine). (m.blank.index == b.index) ≡ true) ms
+
+abbrev AreAfter : TermId → List MentionLine → Type 0
+AreAfter b ms = AllByRecursion (λ (m : MentionLine). b.index < m.blank.index) ms
+
+run-all : (b : TermId) (ms : List MentionLine) → AreOf b (take (run_of b ms) ms)
 run-all b [] = tt
-run-all b (m ∷ ms) = go (bytes_eq m.blank b) refl (run-all b ms)
+run-all b (m ∷ ms) = go (m.blank.index == b.index) refl (run-all b ms)
   where
-    go : (t : Bool) → bytes_eq m.blank b ≡ t → AllByRecursion (λ (m : MentionLine). bytes_eq m.blank b ≡ true) (take (run_of b ms) ms) → AllByRecursion (λ (m : MentionLine). bytes_eq m.blank b ≡ true) (take (cond t (suc (run_of b ms)) 0) (m ∷ ms))
+    go : (t : Bool) → (m.blank.index == b.index) ≡ t → AreOf b (take (run_of b ms) ms) → AreOf b (take (cond t (suc (run_of b ms)) 0) (m ∷ ms))
     go true e rest = (e, rest)
     go false e rest = tt
 
-all_less : (b : List ℕ) (m : MentionLine) (ms : List MentionLine) → text_cmp b m.blank ≡ Less → AllByRecursion (IsUptoLine m) ms → AllByRecursion (λ (n : MentionLine). text_cmp b n.blank ≡ Less) ms
-all_less b m [] less up = tt
-all_less b m (n ∷ ns) less up = (less_upto b m.blank n.blank less up.0.blanks, all_less b m ns less up.1)
+all_after : (b : TermId) (m : MentionLine) (ms : List MentionLine) → b.index < m.blank.index → AllByRecursion (IsUptoLine m) ms → AreAfter b ms
+all_after b m [] less up = tt
+all_after b m (n ∷ ns) less up = let next : m.blank.index ≤ n.blank.index = up.0.blanks in (omega arith, all_after b m ns less up.1)
+
+less_if : (j k : ℕ) → j ≤ k → (k == j) ≡ false → j < k
+less_if j k le e = ⊎_elim (λ l. l) (λ ge. absurd (eqb-false k j e (omega arith))) (cases_lt j k)
 
 -- after the lines of a blank node come those of greater ones
-pub run-after : (b : List ℕ) (ms : List MentionLine) → AllByRecursion (λ (m : MentionLine). is_upto b m.blank ≡ true) ms → InBlankOrder ms → AllByRecursion (λ (m : MentionLine). text_cmp b m.blank ≡ Less) (drop (run_of b ms) ms)
+pub run-after : (b : TermId) (ms : List MentionLine) → AllByRecursion (λ (m : MentionLine). b.index ≤ m.blank.index) ms → InBlankOrder ms → AreAfter b (drop (run_of b ms) ms)
 run-after b [] above up = tt
-run-after b (m ∷ ms) above up = go (bytes_eq m.blank b) refl (run-after b ms above.1 up.1)
+run-after b (m ∷ ms) above up = go (m.blank.index == b.index) refl (run-after b ms above.1 up.1)
   where
-    go : (t : Bool) → bytes_eq m.blank b ≡ t → AllByRecursion (λ (m : MentionLine). text_cmp b m.blank ≡ Less) (drop (run_of b ms) ms) → AllByRecursion (λ (m : MentionLine). text_cmp b m.blank ≡ Less) (drop (cond t (suc (run_of b ms)) 0) (m ∷ ms))
+    go : (t : Bool) → (m.blank.index == b.index) ≡ t → AreAfter b (drop (run_of b ms) ms) → AreAfter b (drop (cond t (suc (run_of b ms)) 0) (m ∷ ms))
     go true e rest = rest
-    go false e rest = let less = less_if b m.blank above.0 e in (less, all_less b m ms less up.0)
+    go false e rest = let less = less_if b.index m.blank.index above.0 e in (less, all_after b m ms less up.0)
 
-blanks_upto : (m : MentionLine) (ms : List MentionLine) → AllByRecursion (IsUptoLine m) ms → AllByRecursion (λ (n : MentionLine). is_upto m.blank n.blank ≡ true) ms
+blanks_upto : (m : MentionLine) (ms : List MentionLine) → AllByRecursion (IsUptoLine m) ms → AllByRecursion (λ (n : MentionLine). m.blank.index ≤ n.blank.index) ms
 blanks_upto m [] up = tt
 blanks_upto m (n ∷ ns) up = (up.0.blanks, blanks_upto m ns up.1)
 
 -- ---- a run and what is left
 
-none_same : (b : List ℕ) (ms : List MentionLine) → AllByRecursion (λ (m : MentionLine). text_cmp b m.blank ≡ Less) ms → AllByRecursion (λ (m : MentionLine). bytes_eq m.blank b ≡ false) ms
+apart : (j k : ℕ) → (j ≡ k → ⊥) → (j == k) ≡ false
+apart j k n = false_from_ne_true (j == k) (λ e. n ((Decides-eqb j k).0 e))
+
+none_same : (b : TermId) (ms : List MentionLine) → AreAfter b ms → AllByRecursion (λ (m : MentionLine). (m.blank.index == b.index) ≡ false) ms
 none_same b [] all = tt
-none_same b (m ∷ ms) all = (bytes_eq-false m.blank b (λ e. irreflexive nat_list_cmp_total b m.blank all.0 (sym e)), none_same b ms all.1)
+none_same b (m ∷ ms) all = let less : b.index < m.blank.index = all.0 in (apart m.blank.index b.index (λ e. absurd (omega arith)), none_same b ms all.1)
 
-others_false : (b c : List ℕ) (ms : List MentionLine) → (b ≡ c → ⊥) → AllByRecursion (λ (m : MentionLine). bytes_eq m.blank b ≡ true) ms → AllByRecursion (λ (m : MentionLine). bytes_eq m.blank c ≡ false) ms
+others_false : (b c : TermId) (ms : List MentionLine) → (b.index ≡ c.index → ⊥) → AreOf b ms → AllByRecursion (λ (m : MentionLine). (m.blank.index == c.index) ≡ false) ms
 others_false b c [] n all = tt
-others_false b c (m ∷ ms) n all = (bytes_eq-false m.blank c (λ e. n (sym ((bytes_eq-Decides m.blank b).0 all.0) ∙ e)), others_false b c ms n all.1)
+others_false b c (m ∷ ms) n all = (apart m.blank.index c.index (λ e. n (sym ((Decides-eqb m.blank.index b.index).0 all.0) ∙ e)), others_false b c ms n all.1)
 
-strictly_sorted-cons : (x : List ℕ) (xs : List (List ℕ)) → AllByRecursion (λ y. text_cmp x y ≡ Less) xs → IsStrictlySortedBy text_cmp xs → IsStrictlySortedBy text_cmp (x ∷ xs)
+-- nothing rises, and what stands in front of greater numbers
+rises-nil : IsStrictlySortedBy nat_cmp []
 unfolding IsStrictlySortedBy
-strictly_sorted-cons x xs below up = (below, up)
+rises-nil = tt
 
-module _ (b : List ℕ) (run later : List MentionLine) (in_run : AllByRecursion (λ (m : MentionLine). bytes_eq m.blank b ≡ true) run) (after : AllByRecursion (λ (m : MentionLine). text_cmp b m.blank ≡ Less) later) where
-  lines_for-run : lines_for b (run ++ later) ≡ map (λ (m : MentionLine). m.line) run
+rises-cons : (x : ℕ) (xs : List ℕ) → AllByRecursion (λ y. nat_cmp x y ≡ Less) xs → IsStrictlySortedBy nat_cmp xs → IsStrictlySortedBy nat_cmp (x ∷ xs)
+unfolding IsStrictlySortedBy
+rises-cons x xs below up = (below, up)
+
+module _ (digest : List ℕ → List ℕ) (b : TermId) (run later : List MentionLine) (in_run : AreOf b run) (after : AreAfter b later) (here : Contains (map blank_of run) b) where
+  abbrev run_hash : BlankHash
+  run_hash = blank_hash b (digest (concat (map line_in run)))
+
+  lines_for-run : lines_for b (run ++ later) ≡ map line_in run
   lines_for-run =
-      let p = λ (m : MentionLine). bytes_eq m.blank b in
+      let p = λ (m : MentionLine). m.blank.index == b.index in
       let e : filter p (run ++ later) ≡ filter p run ++ filter p later = filter-append p run later in
       let f : filter p run ≡ run = filter-all p run in_run in
       let g : filter p later ≡ [] = filter-none p later (none_same b later after) in
-      ap (map (λ (m : MentionLine). m.line)) (e ∙ (λ i. f i ++ g i) ∙ append-nil run)
+      ap (map line_in) (e ∙ (λ i. f i ++ g i) ∙ append-nil run)
 
-  lines_for-later : (c : List ℕ) → (b ≡ c → ⊥) → lines_for c (run ++ later) ≡ lines_for c later
+  lines_for-later : (c : TermId) → (b.index ≡ c.index → ⊥) → lines_for c (run ++ later) ≡ lines_for c later
   lines_for-later c n =
-      let p = λ (m : MentionLine). bytes_eq m.blank c in
+      let p = λ (m : MentionLine). m.blank.index == c.index in
       let e : filter p (run ++ later) ≡ filter p run ++ filter p later = filter-append p run later in
       let f : filter p run ≡ [] = filter-none p run (others_false b c run n in_run) in
-      ap (map (λ (m : MentionLine). m.line)) (e ∙ (λ i. f i ++ filter p later))
+      ap (map line_in) (e ∙ (λ i. f i ++ filter p later))
 
-  blanks_after : (c : List ℕ) → Contains (map blank_of later) c → text_cmp b c ≡ Less
-  blanks_after c m =
-      let found = Contains-from_map blank_of later c m in
-      subst (λ z. text_cmp b z ≡ Less) found.2 (AllByRecursion-contains (λ (m : MentionLine). text_cmp b m.blank ≡ Less) later found.0 after found.1)
+  blanks_after : (c : TermId) → Contains (map blank_of later) c → b.index < c.index
+  blanks_after c k =
+      let m = Contains-from_map blank_of later c k in
+      subst (λ (z : TermId). b.index < z.index) m.2 (AllByRecursion-contains (λ (m : MentionLine). b.index < m.blank.index) later m.0 after m.1)
 
-  -- the blank nodes: the first one, and those of the later lines
-  pub rising-run : Contains (map blank_of run) b → sorted_set (map blank_of (run ++ later)) ≡ b ∷ sorted_set (map blank_of later)
-  rising-run here =
-      let both : map blank_of (run ++ later) ≡ map blank_of run ++ map blank_of later = map-append blank_of run later in
-      sym (rising-only (map blank_of (run ++ later)) (b ∷ sorted_set (map blank_of later)) rises (subst (SameElements (b ∷ sorted_set (map blank_of later))) (sym both) (λ x. (to x, fro x))))
-    where
-      rises : IsStrictlySortedBy text_cmp (b ∷ sorted_set (map blank_of later))
-      rises =
-          strictly_sorted-cons b (sorted_set (map blank_of later))
-          (recursion_from_All (λ c. text_cmp b c ≡ Less) (sorted_set (map blank_of later)) (All-from_contains (λ c. text_cmp b c ≡ Less) (sorted_set (map blank_of later)) (λ c m. blanks_after c ((rising-same (map blank_of later) c).0 m))))
-          (rising-rises (map blank_of later))
+  blanks_are : map blank_of (run ++ later) ≡ map blank_of run ++ map blank_of later
+  blanks_are = map-append blank_of run later
 
-      to : (x : List ℕ) → Contains (b ∷ sorted_set (map blank_of later)) x → Contains (map blank_of run ++ map blank_of later) x
-      to x c =
-          elim (Contains-cons_cases b (sorted_set (map blank_of later)) x c) [
-            | inl e ↦ Contains-append_left (map blank_of run) (map blank_of later) x (subst (Contains (map blank_of run)) e here)
-            | inr d ↦ Contains-append_right (map blank_of run) (map blank_of later) x ((rising-same (map blank_of later) x).0 d)
-          ]
+  in_run_is : (c : TermId) → Contains (map blank_of run) c → c.index ≡ b.index
+  in_run_is c k =
+      let m = Contains-from_map blank_of run c k in
+      subst (λ (z : TermId). z.index ≡ b.index) m.2 ((Decides-eqb m.0.blank.index b.index).0 (AllByRecursion-contains (λ (m : MentionLine). (m.blank.index == b.index) ≡ true) run m.0 in_run m.1))
 
-      fro : (x : List ℕ) → Contains (map blank_of run ++ map blank_of later) x → Contains (b ∷ sorted_set (map blank_of later)) x
-      fro x c =
-          elim (Contains-append_cases (map blank_of run) (map blank_of later) x c) [
-            | inl d ↦ let found = Contains-from_map blank_of run x d in
-                let same : found.0.blank ≡ b = (bytes_eq-Decides found.0.blank b).0 (AllByRecursion-contains (λ (m : MentionLine). bytes_eq m.blank b ≡ true) run found.0 in_run found.1) in
-                subst (Contains (b ∷ sorted_set (map blank_of later))) (sym same ∙ found.2) (Contains-here b (sorted_set (map blank_of later)))
-            | inr d ↦ Contains-there b (sorted_set (map blank_of later)) x ((rising-same (map blank_of later) x).1 d)
-          ]
+  module _ (hs : List BlankHash) (are : AreHashesOf digest later hs) where
+    hash_after : (h : BlankHash) → Contains hs h → b.index < h.blank.index
+    hash_after h k = blanks_after h.blank ((are.exact h).0 k).0
 
-  hashes_agree : (cs : List (List ℕ)) → ((c : List ℕ) → Contains cs c → b ≡ c → ⊥) → map (hash_in (run ++ later)) cs ≡ map (hash_in later) cs
-  hashes_agree [] n = refl
-  hashes_agree (c ∷ cs) n =
-      let first : hash_in (run ++ later) c ≡ hash_in later c = ap (λ ls. blank_hash c (sha256_digits (concat ls))) (lines_for-later c (n c (Contains-here c cs))) in
-      let rest = hashes_agree cs (λ d m. n d (Contains-there c cs d m)) in
-      λ i. first i ∷ rest i
+    below : (gs : List BlankHash) → ((g : BlankHash) → Contains gs g → Contains hs g) → AllByRecursion (λ y. nat_cmp b.index y ≡ Less) (map (λ (h : BlankHash). h.blank.index) gs)
+    below [] among = tt
+    below (g ∷ gs) among = (sym (nat_cmp_is b.index g.blank.index Less (hash_after g (among g (Contains-here g gs)))), below gs (λ h k. among h (Contains-there g gs h k)))
 
-  -- the hashes: that of the first run, and those of the later lines
-  pub hashes_in-run : Contains (map blank_of run) b → hashes_in (run ++ later) ≡ blank_hash b (sha256_digits (concat (map (λ (m : MentionLine). m.line) run))) ∷ hashes_in later
-  hashes_in-run here =
-      let first : hash_in (run ++ later) b ≡ blank_hash b (sha256_digits (concat (map (λ (m : MentionLine). m.line) run))) = ap (λ ls. blank_hash b (sha256_digits (concat ls))) lines_for-run in
-      let rest = hashes_agree (sorted_set (map blank_of later)) (λ c m. irreflexive nat_list_cmp_total b c (blanks_after c ((rising-same (map blank_of later) c).0 m))) in
-      ap (map (hash_in (run ++ later))) (rising-run here) ∙ (λ i. first i ∷ rest i)
+    to_hash : (g : BlankHash) → Contains (run_hash ∷ hs) g → IsHashOf digest (run ++ later) g
+    to_hash g k =
+        elim (Contains-cons_cases run_hash hs g k) [
+          | inl e ↦ subst (IsHashOf digest (run ++ later)) e
+              (subst (λ bs. Contains bs b) (sym blanks_are) (Contains-append_left (map blank_of run) (map blank_of later) b here), ap (λ ls. digest (concat ls)) (sym lines_for-run))
+          | inr d ↦
+              let less = hash_after g d in
+              let told = (are.exact g).0 d in (
+                subst (λ bs. Contains bs g.blank) (sym blanks_are) (Contains-append_right (map blank_of run) (map blank_of later) g.blank told.0),
+                told.1 ∙ ap (λ ls. digest (concat ls)) (sym (lines_for-later g.blank (λ e. absurd (omega arith)))),
+              )
+        ]
+
+    from_hash : (g : BlankHash) → IsHashOf digest (run ++ later) g → Contains (run_hash ∷ hs) g
+    from_hash g told = go (g.blank.index == b.index) refl
+      where
+        go : (t : Bool) → (g.blank.index == b.index) ≡ t → Contains (run_hash ∷ hs) g
+        go true e =
+            let numbers = (Decides-eqb g.blank.index b.index).0 e in
+            let same : g.blank ≡ b = λ i. record { index = numbers i } in
+            let hash : g.hash ≡ digest (concat (map line_in run)) = told.1 ∙ ap (λ (z : TermId). digest (concat (lines_for z (run ++ later)))) same ∙ ap (λ ls. digest (concat ls)) lines_for-run in
+            let whole : run_hash ≡ g = λ i. record { blank = sym same i; hash = sym hash i } in
+            subst (Contains (run_hash ∷ hs)) whole (Contains-here run_hash hs)
+        go false e =
+            let other = eqb-false g.blank.index b.index e in
+            let there : Contains (map blank_of later) g.blank =
+            elim (Contains-append_cases (map blank_of run) (map blank_of later) g.blank (subst (λ bs. Contains bs g.blank) blanks_are told.0)) [
+              | inl d ↦ absurd (other (in_run_is g.blank d))
+              | inr d ↦ d
+            ] in
+            Contains-there run_hash hs g ((are.exact g).1 (there, told.1 ∙ ap (λ ls. digest (concat ls)) (lines_for-later g.blank (λ f. other (sym f)))))
+
+    -- the hashes: that of the first run, and those of the later lines
+    pub hashes-run : AreHashesOf digest (run ++ later) (run_hash ∷ hs)
+    hashes-run = record {
+      rise = rises-cons b.index (map (λ (h : BlankHash). h.blank.index) hs) (below hs (λ h k. k)) are.rise;
+      exact = λ g. (to_hash g, from_hash g);
+    }
 
 -- one turn of the loop over the runs
-pub record Turn (lines : List MentionLine) (hash : BlankHash) (n : ℕ) (later : List MentionLine) : Type 0 where
-  pub hashes_are : hashes_in lines ≡ hash ∷ hashes_in later
+pub record Turn (digest : List ℕ → List ℕ) (lines : List MentionLine) (hash : BlankHash) (n : ℕ) (later : List MentionLine) : Type 0 where
+  pub goes_on : (hs : List BlankHash) → AreHashesOf digest later hs → AreHashesOf digest lines (hash ∷ hs)
   pub in_order : InBlankOrder later
   pub some : 0 < n
 
-turn_of : (m : MentionLine) (ms : List MentionLine) → InBlankOrder (m ∷ ms) → Turn (m ∷ ms) (blank_hash m.blank (sha256_digits (concat (map (λ (m : MentionLine). m.line) (take (run_of m.blank (m ∷ ms)) (m ∷ ms)))))) (run_of m.blank (m ∷ ms)) (drop (run_of m.blank (m ∷ ms)) (m ∷ ms))
-turn_of m ms up =
-    let itself : bytes_eq m.blank m.blank ≡ true = (bytes_eq-Decides m.blank m.blank).1 refl in
+turn_of : (digest : List ℕ → List ℕ) (m : MentionLine) (ms : List MentionLine) → InBlankOrder (m ∷ ms) → Turn digest (m ∷ ms) (blank_hash m.blank (digest (concat (map line_in (take (run_of m.blank (m ∷ ms)) (m ∷ ms)))))) (run_of m.blank (m ∷ ms)) (drop (run_of m.blank (m ∷ ms)) (m ∷ ms))
+turn_of digest m ms up =
+    let itself : (m.blank.index == m.blank.index) ≡ true = (Decides-eqb m.blank.index m.blank.index).1 refl in
     let is : run_of m.blank (m ∷ ms) ≡ suc (run_of m.blank ms) = rw itself refl in
     let parted : take (run_of m.blank (m ∷ ms)) (m ∷ ms) ++ drop (run_of m.blank (m ∷ ms)) (m ∷ ms) ≡ m ∷ ms = take-append-drop (run_of m.blank (m ∷ ms)) (m ∷ ms) in
     let here : Contains (map blank_of (take (run_of m.blank (m ∷ ms)) (m ∷ ms))) m.blank = subst (λ n. Contains (map blank_of (take n (m ∷ ms))) m.blank) (sym is) (Contains-here m.blank (map blank_of (take (run_of m.blank ms) ms))) in
     record {
-      hashes_are = ap hashes_in (sym parted) ∙ hashes_in-run m.blank (take (run_of m.blank (m ∷ ms)) (m ∷ ms)) (drop (run_of m.blank (m ∷ ms)) (m ∷ ms)) (run-all m.blank (m ∷ ms)) (run-after m.blank (m ∷ ms) (is_upto-refl m.blank, blanks_upto m ms up.0) up) here;
+      goes_on = λ hs are.
+          subst (λ ls. AreHashesOf digest ls (blank_hash m.blank (digest (concat (map line_in (take (run_of m.blank (m ∷ ms)) (m ∷ ms))))) ∷ hs)) parted
+          (hashes-run digest m.blank (take (run_of m.blank (m ∷ ms)) (m ∷ ms)) (drop (run_of m.blank (m ∷ ms)) (m ∷ ms)) (run-all m.blank (m ∷ ms)) (run-after m.blank (m ∷ ms) (omega arith, blanks_upto m ms up.0) up) here hs are);
       in_order = InBlankOrder-drop (run_of m.blank (m ∷ ms)) (m ∷ ms) up;
       some = subst (λ n. 0 < n) (sym is) (omega arith);
     }
 
 -- the same for the values of the loop
-pub turn : (first : MentionLine) (rest run later : List MentionLine) (n : ℕ) (hash : BlankHash) → InBlankOrder rest → slice_get rest 0 ≡ Some first → n ≡ run_of first.blank rest → run ≡ take n rest → later ≡ drop n rest → hash ≡ blank_hash first.blank (sha256_digits (concat (map (λ (m : MentionLine). m.line) run))) → Turn rest hash n later
-turn first [] run later n hash up at en er el eh = absurd (cc)
-turn first (m ∷ ms) run later n hash up at en er el eh =
+pub turn : (digest : List ℕ → List ℕ) (first : MentionLine) (rest run later : List MentionLine) (n : ℕ) (hash : BlankHash) → InBlankOrder rest → slice_get rest 0 ≡ Some first → n ≡ run_of first.blank rest → run ≡ take n rest → later ≡ drop n rest → hash ≡ blank_hash first.blank (digest (concat (map line_in run))) → Turn digest rest hash n later
+turn digest first [] run later n hash up at en er el eh = absurd (cc)
+turn digest first (m ∷ ms) run later n hash up at en er el eh =
     let same : m ≡ first = cc in
-    let t = turn_of m ms up in
+    let t = turn_of digest m ms up in
     let fn : run_of m.blank (m ∷ ms) ≡ n = ap (λ (z : MentionLine). run_of z.blank (m ∷ ms)) same ∙ sym en in
     let fr : take (run_of m.blank (m ∷ ms)) (m ∷ ms) ≡ run = ap (λ k. take k (m ∷ ms)) fn ∙ sym er in
     let fl : drop (run_of m.blank (m ∷ ms)) (m ∷ ms) ≡ later = ap (λ k. drop k (m ∷ ms)) fn ∙ sym el in
-    let fh : blank_hash m.blank (sha256_digits (concat (map (λ (m : MentionLine). m.line) (take (run_of m.blank (m ∷ ms)) (m ∷ ms))))) ≡ hash = (λ i. blank_hash (same i).blank (sha256_digits (concat (map (λ (m : MentionLine). m.line) (fr i))))) ∙ sym eh in
+    let fh : blank_hash m.blank (digest (concat (map line_in (take (run_of m.blank (m ∷ ms)) (m ∷ ms))))) ≡ hash = (λ i. blank_hash (same i).blank (digest (concat (map line_in (fr i))))) ∙ sym eh in
     record {
-      hashes_are = t.hashes_are ∙ (λ i. fh i ∷ hashes_in (fl i));
+      goes_on = λ hs are. subst (λ (h : BlankHash). AreHashesOf digest (m ∷ ms) (h ∷ hs)) fh (t.goes_on hs (subst (λ ls. AreHashesOf digest ls hs) (sym fl) are));
       in_order = subst InBlankOrder fl t.in_order;
       some = subst (λ k. 0 < k) fn t.some;
     }
 
+-- ---- the loop over the runs
+
+-- what is left of the lines, and the hashes so far
+abbrev pub GoesOn : (List ℕ → List ℕ) → List MentionLine → List MentionLine → List BlankHash → Type 0
+GoesOn digest lines rest hashes = (hs : List BlankHash) → AreHashesOf digest rest hs → AreHashesOf digest lines (hashes ++ hs)
+
+-- the loop begins with all lines
+pub begins : (digest : List ℕ → List ℕ) (lines : List MentionLine) (hashes : List BlankHash) → hashes ≡ [] → GoesOn digest lines lines hashes
+begins digest lines hashes none hs are = subst (λ gs. AreHashesOf digest lines (gs ++ hs)) (sym none) are
+
+-- a turn takes the first run
+pub turns : (digest : List ℕ → List ℕ) (lines rest later : List MentionLine) (hashes new : List BlankHash) (hash : BlankHash) (n : ℕ) → GoesOn digest lines rest hashes → Turn digest rest hash n later → new ≡ hashes ++ hash ∷ [] → GoesOn digest lines later new
+turns digest lines rest later hashes new hash n so_far t pushed hs are =
+    subst (AreHashesOf digest lines) (sym (append_assoc hashes (hash ∷ []) hs) ∙ ap (λ gs. gs ++ hs) (sym pushed)) (so_far (hash ∷ hs) (t.goes_on hs are))
+
+hashes-nil : (digest : List ℕ → List ℕ) → AreHashesOf digest [] []
+hashes-nil digest = record { rise = rises-nil; exact = λ h. ((λ k. absurd (Contains-nil h k)), (λ told. absurd (Contains-nil h.blank told.0))) }
+
+-- nothing is left at the end
+pub ends : (digest : List ℕ → List ℕ) (lines rest : List MentionLine) (hashes : List BlankHash) → GoesOn digest lines rest hashes → slice_get rest 0 ≡ None → AreHashesOf digest lines hashes
+ends digest lines [] hashes so_far none = subst (AreHashesOf digest lines) (append-nil hashes) (so_far [] (hashes-nil digest))
+ends digest lines (m ∷ ms) hashes so_far none = absurd (cc)
+
 -- ---- the lines of a blank node, sorted
 
-count-lines_for : (b t : List ℕ) (ms : List MentionLine) → sum_by (once t) (lines_for b ms) ≡ sum_by (λ (m : MentionLine). cond (bytes_eq m.blank b) (once t m.line) 0) ms
-count-lines_for b t [] = refl
-count-lines_for b t (m ∷ ms) =
-    let f = λ (m : MentionLine). cond (bytes_eq m.blank b) (once t m.line) 0 in
-    go (bytes_eq m.blank b) (count-lines_for b t ms) ∙ sym (sum_by-cons f m ms)
-  where
-    go : (test : Bool) → sum_by (once t) (lines_for b ms) ≡ sum_by (λ (m : MentionLine). cond (bytes_eq m.blank b) (once t m.line) 0) ms → sum_by (once t) (map (λ (m : MentionLine). m.line) (cond test (m ∷ filter (λ (m : MentionLine). bytes_eq m.blank b) ms) (filter (λ (m : MentionLine). bytes_eq m.blank b) ms))) ≡ cond test (once t m.line) 0 + sum_by (λ (m : MentionLine). cond (bytes_eq m.blank b) (once t m.line) 0) ms
-    go true rest = sum_by-cons (once t) m.line (lines_for b ms) ∙ ap (λ n. once t m.line + n) rest
-    go false rest = omega arith
+module _ (b : TermId) where
+  abbrev counted : List ℕ → MentionLine → ℕ
+  counted t m = cond (m.blank.index == b.index) (once t m.line) 0
 
-all_lines : (b : List ℕ) (m : MentionLine) (ms : List MentionLine) → m.blank ≡ b → AllByRecursion (IsUptoLine m) ms → AllByRecursion (λ l. is_upto m.line l ≡ true) (lines_for b ms)
-all_lines b m [] same up = tt
-all_lines b m (n ∷ ns) same up = go (bytes_eq n.blank b) refl (all_lines b m ns same up.1)
-  where
-    go : (test : Bool) → bytes_eq n.blank b ≡ test → AllByRecursion (λ l. is_upto m.line l ≡ true) (lines_for b ns) → AllByRecursion (λ l. is_upto m.line l ≡ true) (map (λ (m : MentionLine). m.line) (cond test (n ∷ filter (λ (m : MentionLine). bytes_eq m.blank b) ns) (filter (λ (m : MentionLine). bytes_eq m.blank b) ns)))
-    go true e rest = (up.0.lines (same ∙ sym ((bytes_eq-Decides n.blank b).0 e)), rest)
-    go false e rest = rest
+  count-lines_for : (t : List ℕ) (ms : List MentionLine) → sum_by (once t) (lines_for b ms) ≡ sum_by (counted t) ms
+  count-lines_for t [] = refl
+  count-lines_for t (m ∷ ms) = go (m.blank.index == b.index) (count-lines_for t ms) ∙ sym (sum_by-cons (counted t) m ms)
+    where
+      go : (test : Bool) → sum_by (once t) (lines_for b ms) ≡ sum_by (counted t) ms → sum_by (once t) (map line_in (cond test (m ∷ filter (λ (m : MentionLine). m.blank.index == b.index) ms) (filter (λ (m : MentionLine). m.blank.index == b.index) ms))) ≡ cond test (once t m.line) 0 + sum_by (counted t) ms
+      go true rest = sum_by-cons (once t) m.line (lines_for b ms) ∙ ap (λ n. once t m.line + n) rest
+      go false rest = omega arith
 
-InOrder-lines_for : (b : List ℕ) (ms : List MentionLine) → InBlankOrder ms → InOrder (lines_for b ms)
-unfolding InOrder
-InOrder-lines_for b [] up = tt
-InOrder-lines_for b (m ∷ ms) up = go (bytes_eq m.blank b) refl (InOrder-lines_for b ms up.1)
-  where
-    go : (test : Bool) → bytes_eq m.blank b ≡ test → InOrder (lines_for b ms) → InOrder (map (λ (m : MentionLine). m.line) (cond test (m ∷ filter (λ (m : MentionLine). bytes_eq m.blank b) ms) (filter (λ (m : MentionLine). bytes_eq m.blank b) ms)))
-    go true e rest = (all_lines b m ms ((bytes_eq-Decides m.blank b).0 e) up.0, rest)
-    go false e rest = rest
+  all_lines : (m : MentionLine) (ms : List MentionLine) → m.blank.index ≡ b.index → AllByRecursion (IsUptoLine m) ms → AllByRecursion (λ l. is_upto m.line l ≡ true) (lines_for b ms)
+  all_lines m [] same up = tt
+  all_lines m (n ∷ ns) same up = go (n.blank.index == b.index) refl (all_lines m ns same up.1)
+    where
+      go : (test : Bool) → (n.blank.index == b.index) ≡ test → AllByRecursion (λ l. is_upto m.line l ≡ true) (lines_for b ns) → AllByRecursion (λ l. is_upto m.line l ≡ true) (map line_in (cond test (n ∷ filter (λ (m : MentionLine). m.blank.index == b.index) ns) (filter (λ (m : MentionLine). m.blank.index == b.index) ns)))
+      go true e rest = (up.0.lines (same ∙ sym ((Decides-eqb n.blank.index b.index).0 e)), rest)
+      go false e rest = rest
 
--- the lines of a blank node, in order after the sort
-pub lines_for-sorted : (b : List ℕ) (ms ns : List MentionLine) → IsPermutation ms ns → InBlankOrder ns → lines_for b ns ≡ in_order (lines_for b ms)
-lines_for-sorted b ms ns moved up =
-    in_order-only (lines_for b ms) (lines_for b ns)
-    (IsPermutation-from_counts (lines_for b ms) (lines_for b ns) (λ t. count-lines_for b t ms ∙ sym (sum_by-IsPermutation (λ (m : MentionLine). cond (bytes_eq m.blank b) (once t m.line) 0) ms ns moved) ∙ sym (count-lines_for b t ns)))
-    (IsSorted-InOrder (lines_for b ns) (InOrder-lines_for b ns up))
+  InOrder-lines_for : (ms : List MentionLine) → InBlankOrder ms → InOrder (lines_for b ms)
+  unfolding InOrder
+  InOrder-lines_for [] up = tt
+  InOrder-lines_for (m ∷ ms) up = go (m.blank.index == b.index) refl (InOrder-lines_for ms up.1)
+    where
+      go : (test : Bool) → (m.blank.index == b.index) ≡ test → InOrder (lines_for b ms) → InOrder (map line_in (cond test (m ∷ filter (λ (m : MentionLine). m.blank.index == b.index) ms) (filter (λ (m : MentionLine). m.blank.index == b.index) ms)))
+      go true e rest = (all_lines m ms ((Decides-eqb m.blank.index b.index).0 e) up.0, rest)
+      go false e rest = rest
+
+  -- the lines of a blank node, in order after the sort
+  pub lines_for-sorted : (ms ns : List MentionLine) → IsPermutation ms ns → InBlankOrder ns → lines_for b ns ≡ in_order (lines_for b ms)
+  lines_for-sorted ms ns moved up =
+      in_order-only (lines_for b ms) (lines_for b ns)
+      (IsPermutation-from_counts (lines_for b ms) (lines_for b ns) (λ t. count-lines_for t ms ∙ sym (sum_by-IsPermutation (counted t) ms ns moved) ∙ sym (count-lines_for t ns)))
+      (IsSorted-InOrder (lines_for b ns) (InOrder-lines_for ns up))

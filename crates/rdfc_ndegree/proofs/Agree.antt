@@ -290,14 +290,7 @@ module _ {B : Type 0} (v : Nodes B) (c : List B) (calls others : Calls B) (agree
   InGroups-agrees (g ∷ gs) text i o p d e = groups_step text i g gs o p (InGroups-agrees gs) d e
 
   pub IsCall-agrees : CallsAgree (IsCall v c calls) (IsCall v c others)
-  IsCall-agrees n i o p d e =
-      let rest : IsAgreed d.inner e.inner = InGroups-agrees (related_groups v c i n) [] i d.inner e.inner d.groups e.groups in
-      let left : o.tie ≡ d.inner.tie = ap (λ (z : Outcome B). z.tie) d.is in
-      let right : p.tie ≡ e.inner.tie = ap (λ (z : Outcome B). z.tie) e.is in (
-        left ∙ rest.0 ∙ sym right,
-        λ h. let r = rest.1 (sym left ∙ h) in
-            (ap (λ (z : Outcome B). z.hash) d.is ∙ r.0 ∙ sym (ap (λ (z : Outcome B). z.hash) e.is), ap (λ (z : Outcome B). z.issuer) d.is ∙ r.1 ∙ sym (ap (λ (z : Outcome B). z.issuer) e.is)),
-      )
+  IsCall-agrees n i o p d e = InGroups-agrees (related_groups v c i n) [] i o p d.groups e.groups
 
 -- ---- n-degree calls
 

@@ -1,7 +1,9 @@
 -- The best of some trails: how it changes with one more, and what it says of all of them.
-use Rattle.std.proofs.Common.{◌≡◌, ℕ, ◌+◌, ◌-◌, ◌^◌, ◌<◌, min, max, List, [], ◌∷◌, ◌++◌, All, Contains, Bool, true, false, ◌||◌, cond, ◌==◌, nat_lt, count_by, refl, sym, ap, ◌∙◌, subst, inl, inr, ⊎_elim, arith, append_assoc, append-nil, ap₂, Ordering}
+use Rattle.std.proofs.Common.{◌≡◌, ℕ, ◌+◌, ◌-◌, ◌^◌, ◌<◌, min, List, [], ◌∷◌, ◌++◌, All, Contains, Bool, true, false, ◌||◌, cond, nat_lt, count_by, refl, sym, ap, ◌∙◌, subst, inl, inr, ⊎_elim, arith, Option, Some, None, ap₂, Ordering}
+use Rattle.std.specs.Prelude.{is_some}
 use Rattle.std.specs.Str.{bytes_eq}
-use Rattle.std.specs.List.{list_any, starts_with}
+use Rattle.std.proofs.Math.Bool.{or-false}
+use Rattle.std.specs.List.{list_any}
 use Rattle.std.proofs.lemmas.Bool.{false≢true}
 use Rattle.std.proofs.lemmas.Bool.Decides.{nat_tests}
 use Rattle.std.specs.Cmp.Lexicographic.{slice_cmp, nat_list_cmp_total}
@@ -14,8 +16,9 @@ use Rattle.base_types.proofs.Lists.{Contains-here, Contains-there, Contains-cons
 use Rattle.base_types.proofs.Orders.{is_upto-refl, is_upto-back, is_upto-transitive, bytes_eq-cmp, text_cmp, is_upto-cmp, bytes_eq-true, bytes_eq-same}
 use Rattle.std.proofs.lemmas.Map.Lookups.{exact_bytes}
 use Rattle.std.specs.declared.cmp.Ordering.TheVariants.{Less, Equal, Greater}
-use Rattle.rdfc_ndegree.specs.NDegree.{Trail, counts, meets_tie, total_work, greatest_depth}
-use Rattle.rdfc_ndegree.specs.Internal.Evaluations.{all_ties, IsAmong, IsBestOf, IsPlaceOf}
+use Rattle.rdfc_ndegree.specs.NDegree.{Trail, counts, meets_tie, total_work}
+use Rattle.rdfc_ndegree.proofs.FirstTies.{tied-shorter, within-shorter, within-kept, kept-decides, tied-itself}
+use Rattle.rdfc_ndegree.specs.Internal.Evaluations.{is_tied_at, IsWithin, IsFirstTie, shorter, kept_tie, IsAmong, IsBestOf, IsPlaceOf}
 
 apart : (path other least : List ℕ) → is_upto least other ≡ true → is_upto least path ≡ false → bytes_eq other path ≡ false
 apart path other least below not = go (bytes_eq other path) refl
@@ -40,21 +43,13 @@ place_of least path sharing Greater some e =
 module _ {B : Type 0} where
   -- ---- sums over trails
 
-  pub all_ties-push : (ts : List (Trail B)) (t : Trail B) → all_ties (ts ++ t ∷ []) ≡ all_ties ts ++ t.ties
-  all_ties-push [] t = append-nil t.ties
-  all_ties-push (u ∷ us) t = ap (λ xs. u.ties ++ xs) (all_ties-push us t) ∙ sym (append_assoc u.ties (all_ties us) t.ties)
-
   pub total_work-append : (ts us : List (Trail B)) → total_work (ts ++ us) ≡ total_work ts + total_work us
   total_work-append [] us = omega arith
   total_work-append (t ∷ ts) us = let e : total_work (ts ++ us) ≡ total_work ts + total_work us = total_work-append ts us in omega arith
 
-  pub greatest_depth-append : (ts us : List (Trail B)) → greatest_depth (ts ++ us) ≡ max (greatest_depth ts) (greatest_depth us)
-  greatest_depth-append [] us = omega arith
-  greatest_depth-append (t ∷ ts) us = let e : greatest_depth (ts ++ us) ≡ max (greatest_depth ts) (greatest_depth us) = greatest_depth-append ts us in omega arith
-
-  any_counts : (least : List ℕ) (ts : List (Trail B)) → list_any (λ before. starts_with ◌==◌ least before) (all_ties ts) ≡ list_any (λ (t : Trail B). counts least t.ties) ts
-  any_counts least [] = refl
-  any_counts least (t ∷ ts) = list_any-append (λ before. starts_with ◌==◌ least before) t.ties (all_ties ts) ∙ ap (λ b. counts least t.ties || b) (any_counts least ts)
+  any-push : (text : List ℕ) (ts : List (Trail B)) (t : Trail B) → list_any (λ (u : Trail B). counts text u.ties) (ts ++ t ∷ []) ≡ (list_any (λ (u : Trail B). counts text u.ties) ts || counts text t.ties)
+  any-push text ts t =
+      list_any-append (λ (u : Trail B). counts text u.ties) ts (t ∷ []) ∙ ap (λ b. list_any (λ (u : Trail B). counts text u.ties) ts || b) (or-false (counts text t.ties))
 
   -- ---- how many have a path
 
@@ -99,20 +94,25 @@ module _ {B : Type 0} where
 
   -- ---- the best, with one more trail
 
-  pub best-start : IsBestOf {B = B} [] [] [] 0 []
-  best-start = record { among = inl refl; least = All-nil (λ (t : Trail B). is_upto [] t.path ≡ true); sharing_is = refl; ties_are = refl }
+  pub best-start : IsBestOf {B = B} [] [] [] 0 None
+  best-start = record { among = inl refl; least = All-nil (λ (t : Trail B). is_upto [] t.path ≡ true); sharing_is = refl; within = tt; decides = λ text up. refl }
 
-  none_yet : (ts : List (Trail B)) (path : List ℕ) (issuer : List B) (sharing : ℕ) (ties : List (List ℕ)) → IsBestOf ts path issuer sharing ties → sharing ≡ 0 → ts ≡ []
-  none_yet ts path issuer sharing ties b z =
+  none_yet : (ts : List (Trail B)) (path : List ℕ) (issuer : List B) (sharing : ℕ) (tie : Option ℕ) → IsBestOf ts path issuer sharing tie → sharing ≡ 0 → ts ≡ []
+  none_yet ts path issuer sharing tie b z =
       ⊎_elim (λ e. e) (λ a. let some : 0 < with_path path ts = with_path-some path ts a.best a.contains a.path_is in let n = b.sharing_is in absurd (omega arith)) b.among
 
-  shared : (ts : List (Trail B)) (path : List ℕ) (issuer : List B) (sharing : ℕ) (ties : List (List ℕ)) → IsBestOf ts path issuer sharing ties → 0 < sharing → IsAmong ts path issuer
-  shared ts path issuer sharing ties b some =
+  shared : (ts : List (Trail B)) (path : List ℕ) (issuer : List B) (sharing : ℕ) (tie : Option ℕ) → IsBestOf ts path issuer sharing tie → 0 < sharing → IsAmong ts path issuer
+  shared ts path issuer sharing tie b some =
       ⊎_elim (λ e. let none : with_path path ts ≡ 0 = ap (with_path path) e in let n = b.sharing_is in absurd (omega arith)) (λ a. a) b.among
 
-  pub best-first : (ts : List (Trail B)) (t : Trail B) (path : List ℕ) (issuer : List B) (sharing : ℕ) (ties : List (List ℕ)) → IsBestOf ts path issuer sharing ties → sharing ≡ 0 → IsBestOf (ts ++ t ∷ []) t.path t.issuer 1 (ties ++ t.ties)
-  best-first ts t path issuer sharing ties b z =
-      let none : ts ≡ [] = none_yet ts path issuer sharing ties b z in
+  no_tie-yet : (ts : List (Trail B)) (path : List ℕ) (issuer : List B) (sharing : ℕ) (tie : Option ℕ) → IsBestOf ts path issuer sharing tie → ts ≡ [] → is_some tie ≡ false
+  no_tie-yet ts path issuer sharing tie b none =
+      tied-itself path tie ∙ sym (b.decides path (is_upto-refl path)) ∙ ap (list_any (λ (t : Trail B). counts path t.ties)) none
+
+  pub best-first : (ts : List (Trail B)) (t : Trail B) (path : List ℕ) (issuer : List B) (sharing : ℕ) (tie its_tie : Option ℕ) → IsBestOf ts path issuer sharing tie → sharing ≡ 0 → IsFirstTie t.path t.ties its_tie → IsBestOf (ts ++ t ∷ []) t.path t.issuer 1 (shorter (kept_tie t.path path tie) its_tie)
+  best-first ts t path issuer sharing (Some n) its_tie b z first = absurd (false≢true (sym (no_tie-yet ts path issuer sharing (Some n) b (none_yet ts path issuer sharing (Some n) b z))))
+  best-first ts t path issuer sharing None its_tie b z first =
+      let none : ts ≡ [] = none_yet ts path issuer sharing None b z in
       let upto : All (λ (u : Trail B). is_upto t.path u.path ≡ true) ts = subst (All (λ (u : Trail B). is_upto t.path u.path ≡ true)) (sym none) (All-nil (λ (u : Trail B). is_upto t.path u.path ≡ true)) in
       let before : with_path t.path ts ≡ 0 = ap (with_path t.path) none in
       let here : one t.path t ≡ 1 = one-has t.path t (bytes_eq-same t.path t.path refl) in
@@ -121,11 +121,12 @@ module _ {B : Type 0} where
         among = inr record { best = t; contains = Contains-push ts t; path_is = refl; issuer_is = refl };
         least = All-push (λ (u : Trail B). is_upto t.path u.path ≡ true) ts t upto (is_upto-refl t.path);
         sharing_is = omega arith;
-        ties_are = ap (λ xs. xs ++ t.ties) b.ties_are ∙ sym (all_ties-push ts t);
+        within = first.within;
+        decides = λ text up. any-push text ts t ∙ ap (λ us. list_any (λ (u : Trail B). counts text u.ties) us || counts text t.ties) none ∙ first.decides text;
       }
 
-  pub best-less : (ts : List (Trail B)) (t : Trail B) (path : List ℕ) (issuer : List B) (sharing : ℕ) (ties : List (List ℕ)) → IsBestOf ts path issuer sharing ties → is_upto path t.path ≡ false → IsBestOf (ts ++ t ∷ []) t.path t.issuer 1 (ties ++ t.ties)
-  best-less ts t path issuer sharing ties b less =
+  pub best-less : (ts : List (Trail B)) (t : Trail B) (path : List ℕ) (issuer : List B) (sharing : ℕ) (tie its_tie : Option ℕ) → IsBestOf ts path issuer sharing tie → is_upto path t.path ≡ false → IsFirstTie t.path t.ties its_tie → IsBestOf (ts ++ t ∷ []) t.path t.issuer 1 (shorter (kept_tie t.path path tie) its_tie)
+  best-less ts t path issuer sharing tie its_tie b less first =
       let back : is_upto t.path path ≡ true = is_upto-back path t.path less in
       let upto : All (λ (u : Trail B). is_upto t.path u.path ≡ true) ts =
       All-weaker (λ (u : Trail B). is_upto path u.path ≡ true) (λ (u : Trail B). is_upto t.path u.path ≡ true) (λ u f. is_upto-transitive t.path path u.path back f) ts b.least in
@@ -137,61 +138,68 @@ module _ {B : Type 0} where
         among = inr record { best = t; contains = Contains-push ts t; path_is = refl; issuer_is = refl };
         least = All-push (λ (u : Trail B). is_upto t.path u.path ≡ true) ts t upto (is_upto-refl t.path);
         sharing_is = omega arith;
-        ties_are = ap (λ xs. xs ++ t.ties) b.ties_are ∙ sym (all_ties-push ts t);
+        within = within-shorter t.path (kept_tie t.path path tie) its_tie (within-kept t.path path tie b.within) first.within;
+        decides = λ text up.
+            any-push text ts t ∙ (λ i. b.decides text (is_upto-transitive text t.path path up back) i || first.decides text i) ∙ ap (λ x. x || is_tied_at text t.path its_tie) (kept-decides text t.path path tie b.within up back)
+            ∙ tied-shorter text t.path (kept_tie t.path path tie) its_tie;
       }
 
   still : (ts : List (Trail B)) (t : Trail B) (path : List ℕ) (issuer : List B) → IsAmong ts path issuer → IsAmong (ts ++ t ∷ []) path issuer
   still ts t path issuer a = record { best = a.best; contains = Contains-append_left ts (t ∷ []) a.best a.contains; path_is = a.path_is; issuer_is = a.issuer_is }
 
-  pub best-equal : (ts : List (Trail B)) (t : Trail B) (path : List ℕ) (issuer : List B) (sharing : ℕ) (ties : List (List ℕ)) → IsBestOf ts path issuer sharing ties → 0 < sharing → t.path ≡ path → IsBestOf (ts ++ t ∷ []) path issuer (min (sharing + 1) (2 ^ 64 - 1)) (ties ++ t.ties)
-  best-equal ts t path issuer sharing ties b some same =
+  pub best-equal : (ts : List (Trail B)) (t : Trail B) (path : List ℕ) (issuer : List B) (sharing : ℕ) (tie its_tie : Option ℕ) → IsBestOf ts path issuer sharing tie → 0 < sharing → t.path ≡ path → IsFirstTie t.path t.ties its_tie → IsBestOf (ts ++ t ∷ []) path issuer (min (sharing + 1) (2 ^ 64 - 1)) (shorter tie its_tie)
+  best-equal ts t path issuer sharing tie its_tie b some same first =
       let here : one path t ≡ 1 = one-has path t (ap (bytes_eq t.path) (sym same) ∙ bytes_eq-same t.path t.path refl) in
       let n = with_path-push path ts t in
       let was = b.sharing_is in
       record {
-        among = inr (still ts t path issuer (shared ts path issuer sharing ties b some));
+        among = inr (still ts t path issuer (shared ts path issuer sharing tie b some));
         least = All-push (λ (u : Trail B). is_upto path u.path ≡ true) ts t b.least (ap (is_upto path) same ∙ is_upto-refl path);
         sharing_is = omega arith;
-        ties_are = ap (λ xs. xs ++ t.ties) b.ties_are ∙ sym (all_ties-push ts t);
+        within = within-shorter path tie its_tie b.within (subst (λ x. IsWithin x its_tie) same first.within);
+        decides = λ text up. any-push text ts t ∙ (λ i. b.decides text up i || first.decides text i) ∙ ap (λ x. is_tied_at text path tie || is_tied_at text x its_tie) same ∙ tied-shorter text path tie its_tie;
       }
 
-  pub best-greater : (ts : List (Trail B)) (t : Trail B) (path : List ℕ) (issuer : List B) (sharing : ℕ) (ties : List (List ℕ)) → IsBestOf ts path issuer sharing ties → 0 < sharing → is_upto path t.path ≡ true → bytes_eq t.path path ≡ false → IsBestOf (ts ++ t ∷ []) path issuer sharing (ties ++ t.ties)
-  best-greater ts t path issuer sharing ties b some above other =
+  pub best-greater : (ts : List (Trail B)) (t : Trail B) (path : List ℕ) (issuer : List B) (sharing : ℕ) (tie its_tie : Option ℕ) → IsBestOf ts path issuer sharing tie → 0 < sharing → is_upto path t.path ≡ true → bytes_eq t.path path ≡ false → IsFirstTie t.path t.ties its_tie → IsBestOf (ts ++ t ∷ []) path issuer sharing (shorter tie (kept_tie path t.path its_tie))
+  best-greater ts t path issuer sharing tie its_tie b some above other first =
       let here : one path t ≡ 0 = one-lacks path t other in
       let n = with_path-push path ts t in
       let was = b.sharing_is in
       record {
-        among = inr (still ts t path issuer (shared ts path issuer sharing ties b some));
+        among = inr (still ts t path issuer (shared ts path issuer sharing tie b some));
         least = All-push (λ (u : Trail B). is_upto path u.path ≡ true) ts t b.least above;
         sharing_is = omega arith;
-        ties_are = ap (λ xs. xs ++ t.ties) b.ties_are ∙ sym (all_ties-push ts t);
+        within = within-shorter path tie (kept_tie path t.path its_tie) b.within (within-kept path t.path its_tie first.within);
+        decides = λ text up.
+            any-push text ts t ∙ (λ i. b.decides text up i || first.decides text i) ∙ ap (λ x. is_tied_at text path tie || x) (kept-decides text path t.path its_tie first.within up above)
+            ∙ tied-shorter text path tie (kept_tie path t.path its_tie);
       }
 
   -- ---- the same with what the program has at hand
 
-  abbrev pub Takes : List ℕ → List B → ℕ → List (List ℕ) → List ℕ → List B → List (List ℕ) → List ℕ → List B → ℕ → List (List ℕ) → Type 0
-  Takes path issuer sharing ties its_path its_issuer its_ties path' issuer' sharing' ties' =
-      (ts : List (Trail B)) (t : Trail B) → IsBestOf ts path issuer sharing ties → its_path ≡ t.path → its_issuer ≡ t.issuer → its_ties ≡ t.ties → IsBestOf (ts ++ t ∷ []) path' issuer' sharing' ties'
+  abbrev pub Takes : List ℕ → List B → ℕ → Option ℕ → List ℕ → List B → Option ℕ → List ℕ → List B → ℕ → Option ℕ → Type 0
+  Takes path issuer sharing tie its_path its_issuer its_tie path' issuer' sharing' tie' =
+      (ts : List (Trail B)) (t : Trail B) → IsBestOf ts path issuer sharing tie → its_path ≡ t.path → its_issuer ≡ t.issuer → IsFirstTie t.path t.ties its_tie → IsBestOf (ts ++ t ∷ []) path' issuer' sharing' tie'
 
-  pub takes-less : (path : List ℕ) (issuer : List B) (sharing : ℕ) (ties : List (List ℕ)) (its_path : List ℕ) (its_issuer : List B) (its_ties new_ties : List (List ℕ)) → IsPlaceOf path sharing its_path Less → new_ties ≡ ties ++ its_ties
-      → Takes path issuer sharing ties its_path its_issuer its_ties its_path its_issuer 1 new_ties
-  takes-less path issuer sharing ties its_path its_issuer its_ties new_ties place e ts t b p i n =
-      rw (e, p, i, n) (⊎_elim (λ z. best-first ts t path issuer sharing ties b z) (λ l. best-less ts t path issuer sharing ties b (ap (is_upto path) (sym p) ∙ l)) place)
+  pub takes-less : (path : List ℕ) (issuer : List B) (sharing : ℕ) (tie : Option ℕ) (its_path : List ℕ) (its_issuer : List B) (its_tie kept : Option ℕ) → IsPlaceOf path sharing its_path Less → (IsWithin path tie → kept ≡ kept_tie its_path path tie)
+      → Takes path issuer sharing tie its_path its_issuer its_tie its_path its_issuer 1 (shorter kept its_tie)
+  takes-less path issuer sharing tie its_path its_issuer its_tie kept place e ts t b p i first =
+      rw (e b.within, p, i) (⊎_elim (λ z. best-first ts t path issuer sharing tie its_tie b z first) (λ l. best-less ts t path issuer sharing tie its_tie b (ap (is_upto path) (sym p) ∙ l) first) place)
 
-  pub takes-equal : (path : List ℕ) (issuer : List B) (sharing : ℕ) (ties : List (List ℕ)) (its_path : List ℕ) (its_issuer : List B) (its_ties new_ties : List (List ℕ)) (more : ℕ) → IsPlaceOf path sharing its_path Equal → new_ties ≡ ties ++ its_ties → more ≡ min (sharing + 1) (2 ^ 64 - 1)
-      → Takes path issuer sharing ties its_path its_issuer its_ties path issuer more new_ties
-  takes-equal path issuer sharing ties its_path its_issuer its_ties new_ties more place e s ts t b p i n =
-      rw (s, e, n) (best-equal ts t path issuer sharing ties b place.0 (sym p ∙ place.1))
+  pub takes-equal : (path : List ℕ) (issuer : List B) (sharing : ℕ) (tie : Option ℕ) (its_path : List ℕ) (its_issuer : List B) (its_tie : Option ℕ) (more : ℕ) → IsPlaceOf path sharing its_path Equal → more ≡ min (sharing + 1) (2 ^ 64 - 1)
+      → Takes path issuer sharing tie its_path its_issuer its_tie path issuer more (shorter tie its_tie)
+  takes-equal path issuer sharing tie its_path its_issuer its_tie more place s ts t b p i first =
+      rw s (best-equal ts t path issuer sharing tie its_tie b place.0 (sym p ∙ place.1) first)
 
-  pub takes-greater : (path : List ℕ) (issuer : List B) (sharing : ℕ) (ties : List (List ℕ)) (its_path : List ℕ) (its_issuer : List B) (its_ties new_ties : List (List ℕ)) → IsPlaceOf path sharing its_path Greater → new_ties ≡ ties ++ its_ties
-      → Takes path issuer sharing ties its_path its_issuer its_ties path issuer sharing new_ties
-  takes-greater path issuer sharing ties its_path its_issuer its_ties new_ties place e ts t b p i n =
-      rw (e, n) (best-greater ts t path issuer sharing ties b place.0 (ap (is_upto path) (sym p) ∙ place.1) (ap (λ x. bytes_eq x path) (sym p) ∙ place.2))
+  pub takes-greater : (path : List ℕ) (issuer : List B) (sharing : ℕ) (tie : Option ℕ) (its_path : List ℕ) (its_issuer : List B) (its_tie kept : Option ℕ) → IsPlaceOf path sharing its_path Greater → (IsWithin its_path its_tie → kept ≡ kept_tie path its_path its_tie)
+      → Takes path issuer sharing tie its_path its_issuer its_tie path issuer sharing (shorter tie kept)
+  takes-greater path issuer sharing tie its_path its_issuer its_tie kept place e ts t b p i first =
+      rw (e (subst (λ x. IsWithin x its_tie) (sym p) first.within), p) (best-greater ts t path issuer sharing tie its_tie b place.0 (ap (is_upto path) (sym p) ∙ place.1) (ap (λ x. bytes_eq x path) (sym p) ∙ place.2) first)
 
   -- ---- what it says of all of them
 
-  pub best-tie : (ts : List (Trail B)) (path : List ℕ) (issuer : List B) (sharing : ℕ) (ties : List (List ℕ)) → IsBestOf ts path issuer sharing ties → (nat_lt 1 sharing || list_any (λ before. starts_with ◌==◌ path before) ties) ≡ meets_tie path ts
-  best-tie ts path issuer sharing ties b =
+  pub best-tie : (ts : List (Trail B)) (path : List ℕ) (issuer : List B) (sharing : ℕ) (tie : Option ℕ) → IsBestOf ts path issuer sharing tie → (nat_lt 1 sharing || is_some tie) ≡ meets_tie path ts
+  best-tie ts path issuer sharing tie b =
       let n : nat_lt 1 sharing ≡ nat_lt 1 (with_path path ts) = ap (nat_lt 1) b.sharing_is ∙ many (with_path path ts) in
-      let a : list_any (λ before. starts_with ◌==◌ path before) ties ≡ list_any (λ (t : Trail B). counts path t.ties) ts = ap (list_any (λ before. starts_with ◌==◌ path before)) b.ties_are ∙ any_counts path ts in
+      let a : is_some tie ≡ list_any (λ (t : Trail B). counts path t.ties) ts = tied-itself path tie ∙ sym (b.decides path (is_upto-refl path)) in
       ap₂ ◌||◌ n a

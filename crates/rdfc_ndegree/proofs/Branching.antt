@@ -7,14 +7,14 @@ use Rattle.std.proofs.lemmas.List.Sorted.{IsPermutation-refl, IsPermutation-sym,
 use Rattle.std.specs.Prelude.{◌≢◌, IsPermutation}
 use Rattle.std.specs.List.{flat_map}
 use Rattle.base_types.specs.Sets.{AllDiffer}
-use Rattle.base_types.proofs.Lists.{Contains-here, Contains-there, Contains-cons_cases, Contains-nil, Contains-map, Contains-from_map}
+use Rattle.base_types.proofs.Lists.{Contains-here, Contains-there, Contains-cons_cases, Contains-nil, Contains-map, Contains-from_map, Contains-flat_map, Contains-from_flat_map}
 use Rattle.nquads.specs.FirstDegree.{each_once}
 use Rattle.nquads.proofs.ReadingElements.{AllDiffer-nil, AllDiffer-cons, AllDiffer-head, AllDiffer-tail, AllDiffer-map}
 use Rattle.rdfc_ndegree.specs.Nodes.{Nodes}
 use Rattle.rdfc_ndegree.specs.Internal.Nodes.{AreNodes}
 use Rattle.rdfc_ndegree.specs.NDegree.{AreArrangements}
 use Rattle.rdfc_ndegree.proofs.Branches.{drop_one, branches}
-use Rattle.rdfc_ndegree.proofs.Membership.{Contains-filter, Contains-from_filter, Contains-flat_map, Contains-from_flat_map, AllDiffer-append}
+use Rattle.rdfc_ndegree.proofs.Membership.{Contains-filter, Contains-from_filter, AllDiffer-append}
 
 module _ {B : Type 0} (same : B → B → Bool) (equal : (x y : B) → (same x y ≡ true) ↔ (x ≡ y)) where
   itself : (x : B) → same x x ≡ true

@@ -1,5 +1,5 @@
 -- An n-degree call is carried along a map that is one to one on the nodes that are in play.
-use Rattle.std.proofs.Common.{◌≡◌, ℕ, zero, suc, List, [], ◌∷◌, ◌++◌, map, map-id, refl, sym, ap, ◌∙◌, subst, Bool, true, false, if◌then◌else◌, ◌||◌, filter, All, Contains, bytes_eq, codes, decimal, nat_lt, max, ◌+◌, count_by}
+use Rattle.std.proofs.Common.{◌≡◌, ℕ, zero, suc, List, [], ◌∷◌, ◌++◌, map, map-id, refl, sym, ap, ◌∙◌, subst, Bool, true, false, if◌then◌else◌, ◌||◌, filter, All, Contains, bytes_eq, codes, decimal, nat_lt, ◌+◌, count_by}
 use Rattle.std.specs.List.{AllByRecursion, AllZip, list_any}
 use Rattle.std.specs.List.Sorted.{IsPermutation}
 use Rattle.std.proofs.lemmas.List.{map-append}
@@ -12,7 +12,7 @@ use Rattle.nquads.proofs.ReadingElements.{AllDiffer-map}
 use Rattle.rdfc_ndegree.specs.Nodes.{Occurrence, Nodes}
 use Rattle.rdfc_ndegree.specs.Issuers.{has, number, canonical_id, temporary_id, issue}
 use Rattle.rdfc_ndegree.specs.Groups.{position_text, identifier_or_hash, related_hash, NodeHash, Group, group_of, groups_by_hash, with_related_hash, related_groups}
-use Rattle.rdfc_ndegree.specs.NDegree.{Outcome, Trail, Choice, Calls, issue_temporary, identifier, issuer_copy, first_path, recursion_list, path_part, Nested, Evaluates, AreArrangements, counts, meets_tie, total_work, greatest_depth, choice_of, IsChoice, outcome_end, InGroups, IsCall, IsNDegreeWithin, IsNDegree}
+use Rattle.rdfc_ndegree.specs.NDegree.{Outcome, Trail, Choice, Calls, issue_temporary, identifier, issuer_copy, first_path, recursion_list, path_part, Nested, Evaluates, AreArrangements, counts, meets_tie, total_work, choice_of, IsChoice, outcome_end, InGroups, IsCall, IsNDegreeWithin, IsNDegree}
 use Rattle.rdfc_ndegree.proofs.Permutations.{SameElements-permutation, IsPermutation-filter, Each-permutation, Each-append, Each-filter, Each-map, Each-from_contains, map-agree, list_any-map, list_any-map_each, filter-map_each, sum_by-map, pull_back, map-injective}
 
 -- ---- what is carried
@@ -24,13 +24,13 @@ abbrev pub hashed_f : {A B : Type 0} → (A → B) → NodeHash A → NodeHash B
 hashed_f f h = record { hash = h.hash; node = f h.node }
 
 abbrev pub outcome_f : {A B : Type 0} → (A → B) → Outcome A → Outcome B
-outcome_f f o = record { hash = o.hash; issuer = map f o.issuer; tie = o.tie; work = o.work; depth = o.depth }
+outcome_f f o = record { hash = o.hash; issuer = map f o.issuer; tie = o.tie; work = o.work }
 
 abbrev pub trail_f : {A B : Type 0} → (A → B) → Trail A → Trail B
-trail_f f t = record { path = t.path; issuer = map f t.issuer; ties = t.ties; work = t.work; depth = t.depth }
+trail_f f t = record { path = t.path; issuer = map f t.issuer; ties = t.ties; work = t.work }
 
 abbrev pub choice_f : {A B : Type 0} → (A → B) → Choice A → Choice B
-choice_f f x = record { path = x.path; issuer = map f x.issuer; tie = x.tie; work = x.work; depth = x.depth }
+choice_f f x = record { path = x.path; issuer = map f x.issuer; tie = x.tie; work = x.work }
 
 -- f takes the nodes v of Dom to the nodes w, one to one, with all that labelling looks at.
 pub record Carries {A B : Type 0} (f : A → B) (Dom : A → Type 0) (v : Nodes A) (w : Nodes B) : Type 0 where
@@ -97,16 +97,11 @@ module _ {A B : Type 0} (f : A → B) where
   work_kept [] = refl
   work_kept (t ∷ ts) = ap (λ n. 1 + t.work + n) (work_kept ts)
 
-  depth_kept : (ts : List (Trail A)) → greatest_depth (map (trail_f f) ts) ≡ greatest_depth ts
-  depth_kept [] = refl
-  depth_kept (t ∷ ts) = ap (λ n. max t.depth n) (depth_kept ts)
-
   chosen_kept : (best : Trail A) (ts : List (Trail A)) → choice_f f (choice_of best ts) ≡ choice_of (trail_f f best) (map (trail_f f) ts)
   chosen_kept best ts =
       let tie = ties_kept best.path ts in
       let work = work_kept ts in
-      let deep = depth_kept ts in
-      λ j. record { path = best.path; issuer = map f best.issuer; tie = sym tie j; work = sym work j; depth = sym deep j }
+      λ j. record { path = best.path; issuer = map f best.issuer; tie = sym tie j; work = sym work j }
 
 -- ---- calls
 
@@ -313,7 +308,7 @@ module _ {A B : Type 0} (f : A → B) (Dom : A → Type 0) (v : Nodes A) (w : No
   pub InGroups-carried : (calls : Calls A) (calls' : Calls B) → CallsCarried calls calls' → (c : List A) (text : List ℕ) (i : List A) (gs : List (Group A)) (hs : List (Group B)) (o : Outcome A) → AllByRecursion Dom c → AllByRecursion Dom i → AllZip (SameGroup f Dom) gs hs → InGroups v calls c text i gs o → Arrives Dom o.issuer (InGroups w calls' (map f c) text (map f i) hs (outcome_f f o))
   InGroups-carried calls calls' k c text i [] [] o hc hi z d =
       let text_is = s.digest text in
-      let ends : outcome_f f (outcome_end v text i) ≡ outcome_end w text (map f i) = λ j. record { hash = sym text_is j; issuer = map f i; tie = false; work = 0; depth = 0 } in
+      let ends : outcome_f f (outcome_end v text i) ≡ outcome_end w text (map f i) = λ j. record { hash = sym text_is j; issuer = map f i; tie = false; work = 0 } in
       record { in_domain = subst (λ (u : Outcome A). AllByRecursion Dom u.issuer) (sym d) hi; is_there = ap (outcome_f f) d ∙ ends }
   InGroups-carried calls calls' k c text i [] (h ∷ hs) o hc hi z d = absurd z
   InGroups-carried calls calls' k c text i (g ∷ gs) [] o hc hi z d = absurd z
@@ -333,11 +328,8 @@ module _ {A B : Type 0} (f : A → B) (Dom : A → Type 0) (v : Nodes A) (w : No
 
   pub IsCall-carried : (calls : Calls A) (calls' : Calls B) → CallsCarried calls calls' → (c : List A) → AllByRecursion Dom c → CallsCarried (IsCall v c calls) (IsCall w (map f c) calls')
   IsCall-carried calls calls' k c hc n i o dn hi d =
-      let r = InGroups-carried calls calls' k c [] i (related_groups v c i n) (related_groups w (map f c) (map f i) (f n)) d.inner hc hi (related_groups-carried c i n hc hi dn) d.groups in
-      record {
-        in_domain = subst (λ (u : Outcome A). AllByRecursion Dom u.issuer) (sym d.is) r.in_domain;
-        is_there = record { inner = outcome_f f d.inner; groups = r.is_there; is = ap (outcome_f f) d.is };
-      }
+      let r = InGroups-carried calls calls' k c [] i (related_groups v c i n) (related_groups w (map f c) (map f i) (f n)) o hc hi (related_groups-carried c i n hc hi dn) d.groups in
+      record { in_domain = r.in_domain; is_there = record { groups = r.is_there } }
 
   pub IsNDegreeWithin-carried : (c : List A) → AllByRecursion Dom c → (k : ℕ) → CallsCarried (IsNDegreeWithin v c k) (IsNDegreeWithin w (map f c) k)
   IsNDegreeWithin-carried c hc zero = λ n i o dn hi d. absurd d

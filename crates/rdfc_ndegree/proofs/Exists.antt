@@ -12,13 +12,13 @@ use Rattle.rdfc_ndegree.specs.Nodes.{Nodes, Occurrence}
 use Rattle.rdfc_ndegree.specs.Internal.Nodes.{AreNodes}
 use Rattle.rdfc_ndegree.specs.Issuers.{has, issue}
 use Rattle.rdfc_ndegree.specs.Groups.{NodeHash, Group, with_related_hash, related_groups}
-use Rattle.rdfc_ndegree.specs.NDegree.{Outcome, Trail, Choice, Calls, issue_temporary, issuer_copy, first_path, recursion_list, path_part, trail_end, trail_more, Nested, Evaluates, AreArrangements, IsChoice, choice_of, InGroups, outcome_end, outcome_more, one_deeper, IsCall, IsNDegreeWithin, IsNDegree}
+use Rattle.rdfc_ndegree.specs.NDegree.{Outcome, Trail, Choice, Calls, issue_temporary, issuer_copy, first_path, recursion_list, path_part, trail_end, trail_more, Nested, Evaluates, AreArrangements, IsChoice, choice_of, InGroups, outcome_end, outcome_more, IsCall, IsNDegreeWithin, IsNDegree}
 use Rattle.rdfc_ndegree.specs.Run.{with_first_hash, first_groups, alone, lacking, take_issuers, InHashOrder, RunOutcome, run_end, run_more, Rounds, IsRun}
 use Rattle.rdfc_ndegree.proofs.Branches.{branches}
 pub use Rattle.rdfc_ndegree.proofs.Lack.{lack, Grows, AreListed}
 use Rattle.rdfc_ndegree.proofs.Membership.{Contains-from_filter, AllZip-from_left, has-issue, grouped-member}
 use Rattle.rdfc_ndegree.proofs.Branching.{branches-are, arrangements-some, arrangement-member}
-use Rattle.rdfc_ndegree.proofs.Grow.{CallsGrow, Grows-named, Grows-named_all, IsChoice-grows_if, IsNDegreeWithin-grows, IsNDegree-grows}
+use Rattle.rdfc_ndegree.proofs.Grow.{CallsGrow, Grows-has, Grows-named, Grows-named_all, IsChoice-grows_if, IsNDegreeWithin-grows, IsNDegree-grows}
 
 -- ---- how many are not named yet
 
@@ -44,16 +44,16 @@ module _ {B : Type 0} (v : Nodes B) where
   unfolding part
   lack-cons c i u us = refl
 
-  pub lack-grows : (c i j us : List B) → Grows v i j → lack v c j us ≤ lack v c i us
+  pub lack-grows : (c i j us : List B) → Grows i j → lack v c j us ≤ lack v c i us
   lack-grows c i j [] g = omega arith
   lack-grows c i j (u ∷ us) g =
       let a = lack-cons c i u us in
       let b = lack-cons c j u us in
-      let first : part (has v c u) (has v j u) ≤ part (has v c u) (has v i u) = part-less (has v c u) (has v i u) (has v j u) (g u) in
+      let first : part (has v c u) (has v j u) ≤ part (has v c u) (has v i u) = part-less (has v c u) (has v i u) (has v j u) (Grows-has v i j g u) in
       let rest : lack v c j us ≤ lack v c i us = lack-grows c i j us g in
       omega arith
 
-  pub lack-less : (c i j us : List B) (m : B) → Grows v i j → Contains us m → (has v c m || has v i m) ≡ false → has v j m ≡ true → lack v c j us < lack v c i us
+  pub lack-less : (c i j us : List B) (m : B) → Grows i j → Contains us m → (has v c m || has v i m) ≡ false → has v j m ≡ true → lack v c j us < lack v c i us
   lack-less c i j [] m g k n e = absurd (Contains-nil m k)
   lack-less c i j (u ∷ us) m g k n e = ⊎_elim here (λ l. there (lack-less c i j us m g l n e)) (Contains-cons_cases u us m k)
     where
@@ -70,7 +70,7 @@ module _ {B : Type 0} (v : Nodes B) where
       there rest =
           let a = lack-cons c i u us in
           let b = lack-cons c j u us in
-          let first : part (has v c u) (has v j u) ≤ part (has v c u) (has v i u) = part-less (has v c u) (has v i u) (has v j u) (g u) in
+          let first : part (has v c u) (has v j u) ≤ part (has v c u) (has v i u) = part-less (has v c u) (has v i u) (has v j u) (Grows-has v i j g u) in
           omega arith
 
   -- ---- what an arrangement names
@@ -194,11 +194,11 @@ IsChoice-from_trails evaluates members ps ts all evaluated =
 
 -- ---- calls exist, given that nested calls do where fewer than k nodes lack a name
 
-module _ {B : Type 0} {v : Nodes B} (laws : AreNodes v) (c : List B) (calls : Calls B) (grow : CallsGrow v calls) (k : ℕ) (exist : (n : B) (i : List B) → Contains v.all n → lack v c i v.all < k → (o : Outcome B) × calls n i o) where
-  pub still_less : (i j : List B) → Grows v i j → lack v c i v.all < k → lack v c j v.all < k
+module _ {B : Type 0} {v : Nodes B} (laws : AreNodes v) (c : List B) (calls : Calls B) (grow : CallsGrow calls) (k : ℕ) (exist : (n : B) (i : List B) → Contains v.all n → lack v c i v.all < k → (o : Outcome B) × calls n i o) where
+  pub still_less : (i j : List B) → Grows i j → lack v c i v.all < k → lack v c j v.all < k
   still_less i j g l = let less : lack v c j v.all ≤ lack v c i v.all = lack-grows v c i j v.all g in omega arith
 
-  pub still_upto : (i j : List B) → Grows v i j → lack v c i v.all ≤ k → lack v c j v.all ≤ k
+  pub still_upto : (i j : List B) → Grows i j → lack v c i v.all ≤ k → lack v c j v.all ≤ k
   still_upto i j g l = let less : lack v c j v.all ≤ lack v c i v.all = lack-grows v c i j v.all g in omega arith
 
   -- where the list is empty no call is made, and nothing is asked of the issuer
@@ -240,7 +240,7 @@ module _ {B : Type 0} {v : Nodes B} (laws : AreNodes v) (c : List B) (calls : Ca
   unfoldable pub call_if : (n : B) (i : List B) → Contains v.all n → lack v c i v.all ≤ k → (o : Outcome B) × IsCall v c calls n i o
   call_if n i listed l =
       let o = groups_if [] i (related_groups v c i n) (λ g e m f. groups-listed v laws c i n g m listed e f) l in
-      (one_deeper o.0, record { inner = o.0; groups = o.1; is = refl })
+      (o.0, record { groups = o.1 })
 
 -- ---- calls exist
 

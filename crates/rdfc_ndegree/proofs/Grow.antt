@@ -1,5 +1,5 @@
 -- Issuers only grow, what fewer calls may give more may give, and an n-degree call unfolds into a call over n-degree calls.
-use Rattle.std.proofs.Common.{◌≡◌, ℕ, zero, suc, ◌+◌, ◌≤◌, List, [], ◌∷◌, ◌++◌, true, sym, subst, arith}
+use Rattle.std.proofs.Common.{◌≡◌, ℕ, zero, suc, ◌+◌, ◌≤◌, List, [], ◌∷◌, ◌++◌, true, refl, sym, ap, ◌∙◌, subst, arith, append_assoc, append-nil}
 use Rattle.std.proofs.lemmas.Bool.{cond_both}
 use Rattle.std.specs.List.{AllZip}
 use Rattle.rdfc_ndegree.specs.Nodes.{Nodes}
@@ -10,72 +10,80 @@ pub use Rattle.rdfc_ndegree.proofs.Lack.{Grows}
 use Rattle.rdfc_ndegree.proofs.Membership.{AllZip-from_right, AllZip-weaker, has-append_left}
 
 -- each call over `calls` gives an issuer that has grown; what `fewer` may give `more` may give
-abbrev pub CallsGrow : {B : Type 0} → Nodes B → Calls B → Type 0
-CallsGrow {B} v calls = (n : B) (i : List B) (o : Outcome B) → calls n i o → Grows v i o.issuer
+abbrev pub CallsGrow : {B : Type 0} → Calls B → Type 0
+CallsGrow {B} calls = (n : B) (i : List B) (o : Outcome B) → calls n i o → Grows i o.issuer
 
 abbrev pub AreAmong : {B : Type 0} → Calls B → Calls B → Type 0
 AreAmong {B} fewer more = (n : B) (i : List B) (o : Outcome B) → fewer n i o → more n i o
 
 -- ---- issuers grow
 
+module _ {B : Type 0} where
+  pub Grows-refl : (i : List B) → Grows i i
+  Grows-refl i = record { more = []; is = sym (append-nil i) }
+
+  pub Grows-trans : (i j k : List B) → Grows i j → Grows j k → Grows i k
+  Grows-trans i j k g h = record { more = g.more ++ h.more; is = h.is ∙ ap (λ l. l ++ h.more) g.is ∙ append_assoc i g.more h.more }
+
+  Grows-push : (i : List B) (m : B) → Grows i (i ++ m ∷ [])
+  Grows-push i m = record { more = m ∷ []; is = refl }
+
 module _ {B : Type 0} (v : Nodes B) where
-  pub Grows-refl : (i : List B) → Grows v i i
-  Grows-refl i = λ x e. e
+  -- what has been named stays so
+  pub Grows-has : (i j : List B) → Grows i j → (x : B) → has v i x ≡ true → has v j x ≡ true
+  Grows-has i j g x e = subst (λ k. has v k x ≡ true) (sym g.is) (has-append_left v i g.more x e)
 
-  pub Grows-trans : (i j k : List B) → Grows v i j → Grows v j k → Grows v i k
-  Grows-trans i j k g h = λ x e. h x (g x e)
+  pub Grows-issue : (i : List B) (m : B) → Grows i (issue v i m)
+  Grows-issue i m = cond_both (has v i m) i (i ++ m ∷ []) (λ j. Grows i j) (λ _. Grows-refl i) (λ _. Grows-push i m)
 
-  pub Grows-issue : (i : List B) (m : B) → Grows v i (issue v i m)
-  Grows-issue i m = λ x e. cond_both (has v i m) i (i ++ m ∷ []) (λ j. has v j x ≡ true) (λ _. e) (λ _. has-append_left v i (m ∷ []) x e)
+  pub Grows-named : (c i : List B) (m : B) → Grows i (issue_temporary v c i m)
+  Grows-named c i m = cond_both (has v c m) i (issue v i m) (λ j. Grows i j) (λ _. Grows-refl i) (λ _. Grows-issue i m)
 
-  pub Grows-named : (c i : List B) (m : B) → Grows v i (issue_temporary v c i m)
-  Grows-named c i m = λ x e. cond_both (has v c m) i (issue v i m) (λ j. has v j x ≡ true) (λ _. e) (λ _. Grows-issue i m x e)
+  pub Grows-named_all : (c i p : List B) → Grows i (issuer_copy v c i p)
+  Grows-named_all c i [] = Grows-refl i
+  Grows-named_all c i (m ∷ ms) = Grows-trans i (issue_temporary v c i m) (issuer_copy v c (issue_temporary v c i m) ms) (Grows-named c i m) (Grows-named_all c (issue_temporary v c i m) ms)
 
-  pub Grows-named_all : (c i p : List B) → Grows v i (issuer_copy v c i p)
-  Grows-named_all c i [] = λ x e. e
-  Grows-named_all c i (m ∷ ms) = λ x e. Grows-named_all c (issue_temporary v c i m) ms x (Grows-named c i m x e)
+  pub Nested-grows_if : (calls : Calls B) → CallsGrow calls → (i : List B) (path : List ℕ) (ms : List B) (t : Trail B) → Nested v calls i path ms t → Grows i t.issuer
+  Nested-grows_if calls g i path [] t d = subst (λ (u : Trail B). Grows i u.issuer) (sym d) (Grows-refl i)
+  Nested-grows_if calls g i path (m ∷ ms) t d =
+      let later = Nested-grows_if calls g d.outcome.issuer (path ++ path_part v i m d.outcome.hash) ms d.rest d.goes_on in
+      subst (λ (u : Trail B). Grows i u.issuer) (sym d.is) (Grows-trans i d.outcome.issuer d.rest.issuer (g m i d.outcome d.called) later)
 
-  pub Nested-grows_if : (calls : Calls B) → CallsGrow v calls → (i : List B) (path : List ℕ) (ms : List B) (t : Trail B) → Nested v calls i path ms t → Grows v i t.issuer
-  Nested-grows_if calls g i path [] t d = λ x e. subst (λ (u : Trail B). has v u.issuer x ≡ true) (sym d) e
-  Nested-grows_if calls g i path (m ∷ ms) t d = λ x e.
-      subst (λ (u : Trail B). has v u.issuer x ≡ true) (sym d.is)
-      (Nested-grows_if calls g d.outcome.issuer (path ++ path_part v i m d.outcome.hash) ms d.rest d.goes_on x (g m i d.outcome d.called x e))
+  pub Evaluates-grows_if : (calls : Calls B) → CallsGrow calls → (c i p : List B) (t : Trail B) → Evaluates v calls c i p t → Grows i t.issuer
+  Evaluates-grows_if calls g c i p t d =
+      Grows-trans i (issuer_copy v c i p) t.issuer (Grows-named_all c i p) (Nested-grows_if calls g (issuer_copy v c i p) (first_path v c i p) (recursion_list v c i p) t d)
 
-  pub Evaluates-grows_if : (calls : Calls B) → CallsGrow v calls → (c i p : List B) (t : Trail B) → Evaluates v calls c i p t → Grows v i t.issuer
-  Evaluates-grows_if calls g c i p t d = λ x e. Nested-grows_if calls g (issuer_copy v c i p) (first_path v c i p) (recursion_list v c i p) t d x (Grows-named_all c i p x e)
-
-  pub IsChoice-grows_if : (calls : Calls B) → CallsGrow v calls → (c i members : List B) (o : Choice B) → IsChoice (Evaluates v calls c i) members o → Grows v i o.issuer
-  IsChoice-grows_if calls g c i members o d = λ x e.
+  pub IsChoice-grows_if : (calls : Calls B) → CallsGrow calls → (c i members : List B) (o : Choice B) → IsChoice (Evaluates v calls c i) members o → Grows i o.issuer
+  IsChoice-grows_if calls g c i members o d =
       let found = AllZip-from_right (Evaluates v calls c i) d.arrangements d.trails d.best d.evaluated d.among in
-      subst (λ (u : Choice B). has v u.issuer x ≡ true) (sym d.is) (Evaluates-grows_if calls g c i found.0 d.best found.2 x e)
+      subst (λ (u : Choice B). Grows i u.issuer) (sym d.is) (Evaluates-grows_if calls g c i found.0 d.best found.2)
 
-  pub InGroups-grows_if : (calls : Calls B) → CallsGrow v calls → (c : List B) (text : List ℕ) (i : List B) (gs : List (Group B)) (o : Outcome B) → InGroups v calls c text i gs o → Grows v i o.issuer
-  InGroups-grows_if calls g c text i [] o d = λ x e. subst (λ (u : Outcome B). has v u.issuer x ≡ true) (sym d) e
-  InGroups-grows_if calls g c text i (h ∷ hs) o d = λ x e.
-      subst (λ (u : Outcome B). has v u.issuer x ≡ true) (sym d.is)
-      (InGroups-grows_if calls g c (text ++ (h.hash ++ d.choice.path)) d.choice.issuer hs d.rest d.goes_on x (IsChoice-grows_if calls g c i h.members d.choice d.is_choice x e))
+  pub InGroups-grows_if : (calls : Calls B) → CallsGrow calls → (c : List B) (text : List ℕ) (i : List B) (gs : List (Group B)) (o : Outcome B) → InGroups v calls c text i gs o → Grows i o.issuer
+  InGroups-grows_if calls g c text i [] o d = subst (λ (u : Outcome B). Grows i u.issuer) (sym d) (Grows-refl i)
+  InGroups-grows_if calls g c text i (h ∷ hs) o d =
+      let later = InGroups-grows_if calls g c (text ++ (h.hash ++ d.choice.path)) d.choice.issuer hs d.rest d.goes_on in
+      subst (λ (u : Outcome B). Grows i u.issuer) (sym d.is) (Grows-trans i d.choice.issuer d.rest.issuer (IsChoice-grows_if calls g c i h.members d.choice d.is_choice) later)
 
-  pub IsCall-grows_if : (calls : Calls B) → CallsGrow v calls → (c : List B) → CallsGrow v (IsCall v c calls)
-  IsCall-grows_if calls g c = λ n i o d x e.
-      subst (λ (u : Outcome B). has v u.issuer x ≡ true) (sym d.is) (InGroups-grows_if calls g c [] i (related_groups v c i n) d.inner d.groups x e)
+  pub IsCall-grows_if : (calls : Calls B) → CallsGrow calls → (c : List B) → CallsGrow (IsCall v c calls)
+  IsCall-grows_if calls g c = λ n i o d. InGroups-grows_if calls g c [] i (related_groups v c i n) o d.groups
 
-  pub IsNDegreeWithin-grows : (c : List B) (k : ℕ) → CallsGrow v (IsNDegreeWithin v c k)
+  pub IsNDegreeWithin-grows : (c : List B) (k : ℕ) → CallsGrow (IsNDegreeWithin v c k)
   IsNDegreeWithin-grows c zero = λ n i o d. absurd d
   IsNDegreeWithin-grows c (suc k) = IsCall-grows_if (IsNDegreeWithin v c k) (IsNDegreeWithin-grows c k) c
 
-  pub IsNDegree-grows : (c : List B) (n : B) (i : List B) (o : Outcome B) → IsNDegree v c n i o → Grows v i o.issuer
+  pub IsNDegree-grows : (c : List B) (n : B) (i : List B) (o : Outcome B) → IsNDegree v c n i o → Grows i o.issuer
   IsNDegree-grows c n i o d = IsNDegreeWithin-grows c d.within n i o d.call
 
-  pub Nested-grows : (c i : List B) (path : List ℕ) (ms : List B) (t : Trail B) → Nested v (IsNDegree v c) i path ms t → Grows v i t.issuer
+  pub Nested-grows : (c i : List B) (path : List ℕ) (ms : List B) (t : Trail B) → Nested v (IsNDegree v c) i path ms t → Grows i t.issuer
   Nested-grows c = Nested-grows_if (IsNDegree v c) (IsNDegree-grows c)
 
-  pub Evaluates-grows : (c i p : List B) (t : Trail B) → Evaluates v (IsNDegree v c) c i p t → Grows v i t.issuer
+  pub Evaluates-grows : (c i p : List B) (t : Trail B) → Evaluates v (IsNDegree v c) c i p t → Grows i t.issuer
   Evaluates-grows c = Evaluates-grows_if (IsNDegree v c) (IsNDegree-grows c) c
 
-  pub IsChoice-grows : (c i members : List B) (o : Choice B) → IsChoice (Evaluates v (IsNDegree v c) c i) members o → Grows v i o.issuer
+  pub IsChoice-grows : (c i members : List B) (o : Choice B) → IsChoice (Evaluates v (IsNDegree v c) c i) members o → Grows i o.issuer
   IsChoice-grows c = IsChoice-grows_if (IsNDegree v c) (IsNDegree-grows c) c
 
-  pub InGroups-grows : (c : List B) (text : List ℕ) (i : List B) (gs : List (Group B)) (o : Outcome B) → InGroups v (IsNDegree v c) c text i gs o → Grows v i o.issuer
+  pub InGroups-grows : (c : List B) (text : List ℕ) (i : List B) (gs : List (Group B)) (o : Outcome B) → InGroups v (IsNDegree v c) c text i gs o → Grows i o.issuer
   InGroups-grows c = InGroups-grows_if (IsNDegree v c) (IsNDegree-grows c) c
 
 -- ---- what fewer calls may give, more may give
@@ -117,7 +125,7 @@ module _ {B : Type 0} (v : Nodes B) where
   }
 
   pub IsCall-more : (fewer more : Calls B) → AreAmong fewer more → (c : List B) → AreAmong (IsCall v c fewer) (IsCall v c more)
-  IsCall-more fewer more a c = λ n i o d. record { inner = d.inner; groups = InGroups-more fewer more a c [] i (related_groups v c i n) d.inner d.groups; is = d.is }
+  IsCall-more fewer more a c = λ n i o d. record { groups = InGroups-more fewer more a c [] i (related_groups v c i n) o d.groups }
 
   pub IsNDegreeWithin-up : (c : List B) (k j : ℕ) → k ≤ j → AreAmong (IsNDegreeWithin v c k) (IsNDegreeWithin v c j)
   IsNDegreeWithin-up c zero j l = λ n i o d. absurd d
@@ -127,13 +135,6 @@ module _ {B : Type 0} (v : Nodes B) where
 -- ---- an n-degree call and its level
 
 module _ {B : Type 0} (v : Nodes B) (c : List B) where
-  unfold_within : (k : ℕ) (n : B) (i : List B) (o : Outcome B) → IsNDegreeWithin v c k n i o → IsCall v c (IsNDegree v c) n i o
-  unfold_within zero n i o d = absurd d
-  unfold_within (suc k) n i o d = IsCall-more v (IsNDegreeWithin v c k) (IsNDegree v c) (λ m j u e. record { within = k; call = e }) c n i o d
-
-  pub call-unfold : (n : B) (i : List B) (o : Outcome B) → IsNDegree v c n i o → IsCall v c (IsNDegree v c) n i o
-  call-unfold n i o d = unfold_within d.within n i o d.call
-
   up_left : (k j : ℕ) → AreAmong (IsNDegreeWithin v c k) (IsNDegreeWithin v c (k + j))
   up_left k j = IsNDegreeWithin-up v c k (k + j) (omega arith)
 
@@ -191,5 +192,5 @@ module _ {B : Type 0} (v : Nodes B) (c : List B) where
 
   pub call-fold : (n : B) (i : List B) (o : Outcome B) → IsCall v c (IsNDegree v c) n i o → IsNDegree v c n i o
   call-fold n i o d =
-      let inside = fold_groups [] i (related_groups v c i n) d.inner d.groups in
-      record { within = suc inside.0; call = record { inner = d.inner; groups = inside.1; is = d.is } }
+      let inside = fold_groups [] i (related_groups v c i n) o d.groups in
+      record { within = suc inside.0; call = record { groups = inside.1 } }

@@ -5,7 +5,8 @@ use Rattle.std.specs.List.{AllByRecursion}
 use Rattle.std.proofs.lemmas.List.{map-append}
 use Rattle.std.proofs.lemmas.Option.{slice_get_within, get_or_from_slice_get}
 use Rattle.std.proofs.lemmas.List.Elements.{recursion_from_All, All-from_recursion}
-use Rattle.digest_mac.specs.Digests.{sha256_digits}
+use Rattle.digest_mac.specs.Digests.{digits}
+use Rattle.digest_mac.specs.declared.hash.Hash.{Hash}
 use Rattle.rdfc_ndegree.specs.Nodes.{Occurrence}
 use Rattle.rdfc_ndegree.specs.Groups.{NodeHash, Group, position_text, identifier_or_hash, related_hash, with_related_hash, groups_by_hash, related_groups}
 use Rattle.rdfc_ndegree.specs.Table.{occurrence_of, related_in_row, table_nodes, IsClosed}
@@ -13,37 +14,33 @@ use Rattle.rdfc_ndegree.specs.Internal.Grouping.{node_hash}
 use Rattle.rdfc_ndegree.specs.Table.{group_in}
 use Rattle.rdfc_ndegree.specs.declared.related.HashedNode.{HashedNode}
 use Rattle.rdfc_ndegree.specs.declared.related.NodeGroup.{NodeGroup}
-use Rattle.rdfc_ndegree.specs.declared.table.NodeRow.{NodeRow}
-use Rattle.rdfc_ndegree.specs.declared.table.Related.{Related}
+use Rattle.rdfc_ndegree.specs.Table.{NodeRow}
+use Rattle.rdfc_ndegree.specs.Table.{Related}
 use Rattle.rdfc_ndegree.proofs.Grouping.{grouped-all}
 
-module _ (rows : List NodeRow) (c i : List ℕ) where
+module _ (algorithm : Hash) (rows : List NodeRow) (c i : List ℕ) where
   abbrev with_hashes : List (Occurrence ℕ) → List (NodeHash ℕ)
-  with_hashes os = map (with_related_hash (table_nodes rows) c i) os
+  with_hashes os = map (with_related_hash (table_nodes algorithm rows) c i) os
 
-  pub hash-made : (r : Related) (hash seen text place fresh : List ℕ) → hash ≡ sha256_digits seen → seen ≡ text → text ≡ place ++ identifier_or_hash (table_nodes rows) c i r.node → place ≡ fresh ++ position_text r.position r.predicate → fresh ≡ []
-      → hash ≡ related_hash (table_nodes rows) c i (occurrence_of r)
+  pub hash-made : (o : Occurrence ℕ) (hash seen text place fresh : List ℕ) → hash ≡ digits algorithm seen → seen ≡ text → text ≡ place ++ identifier_or_hash (table_nodes algorithm rows) c i o.blank → place ≡ fresh ++ position_text o.position o.predicate → fresh ≡ []
+      → hash ≡ related_hash (table_nodes algorithm rows) c i o
   unfolding table_nodes
-  hash-made r hash seen text place fresh digest same whole front empty =
-      digest ∙ ap sha256_digits (same ∙ whole ∙ ap (λ p. p ++ identifier_or_hash (table_nodes rows) c i r.node) (front ∙ ap (λ f. f ++ position_text r.position r.predicate) empty))
+  hash-made o hash seen text place fresh digest same whole front empty =
+      digest ∙ ap (digits algorithm) (same ∙ whole ∙ ap (λ p. p ++ identifier_or_hash (table_nodes algorithm rows) c i o.blank) (front ∙ ap (λ f. f ++ position_text o.position o.predicate) empty))
 
-  pub hashed-next : (rs : List Related) (k : ℕ) (r : Related) (hs new : List HashedNode) (hash : List ℕ) → k < length rs → r ≡ get_or rs k r
-      → map node_hash hs ≡ map (with_related_hash (table_nodes rows) c i) (map occurrence_of (take k rs)) → new ≡ hs ++ record { hash = hash; node = r.node } ∷ [] → hash ≡ related_hash (table_nodes rows) c i (occurrence_of r)
-      → map node_hash new ≡ map (with_related_hash (table_nodes rows) c i) (map occurrence_of (take (k + 1) rs))
-  hashed-next rs k r hs new hash in' is so_far push made =
-      let next : HashedNode = record { hash = hash; node = r.node } in
-      let one : node_hash next ≡ with_related_hash (table_nodes rows) c i (occurrence_of r) = λ j. record { hash = made j; node = r.node } in
-      let longer : take (k + 1) rs ≡ take k rs ++ r ∷ [] = rw add-one (take-suc rs k r in' ∙ ap (λ x. take k rs ++ x ∷ []) (sym is)) in
-      ap (map node_hash) push ∙ map-append node_hash hs (next ∷ []) ∙ (λ j. so_far j ++ one j ∷ [])
-      ∙ sym (ap (λ ts. with_hashes (map occurrence_of ts)) longer ∙ ap with_hashes (map-append occurrence_of (take k rs) (r ∷ [])) ∙ map-append (with_related_hash (table_nodes rows) c i) (map occurrence_of (take k rs)) (occurrence_of r ∷ []))
+  pub hashed-next : (os : List (Occurrence ℕ)) (k : ℕ) (o : Occurrence ℕ) (hs new : List HashedNode) (h : HashedNode) → Some o ≡ slice_get os k
+      → map node_hash hs ≡ map (with_related_hash (table_nodes algorithm rows) c i) (take k os) → new ≡ hs ++ h ∷ [] → node_hash h ≡ with_related_hash (table_nodes algorithm rows) c i o
+      → map node_hash new ≡ map (with_related_hash (table_nodes algorithm rows) c i) (take (k + 1) os)
+  hashed-next os k o hs new h at so_far push made =
+      let in' : k < length os = slice_get_within os k o (sym at) in
+      let is : o ≡ get_or os k o = sym (get_or_from_slice_get os k o o (sym at)) in
+      let longer : take (k + 1) os ≡ take k os ++ o ∷ [] = rw add-one (take-suc os k o in' ∙ ap (λ x. take k os ++ x ∷ []) (sym is)) in
+      ap (map node_hash) push ∙ map-append node_hash hs (h ∷ []) ∙ (λ j. so_far j ++ made j ∷ [])
+      ∙ sym (ap with_hashes longer ∙ map-append (with_related_hash (table_nodes algorithm rows) c i) (take k os) (o ∷ []))
 
-  pub groups-of_row : (n : ℕ) (row : NodeRow) → Some row ≡ slice_get rows n → groups_by_hash (map (with_related_hash (table_nodes rows) c i) (map occurrence_of row.related)) ≡ related_groups (table_nodes rows) c i n
+  pub groups-of_row : (n : ℕ) → groups_by_hash (map (with_related_hash (table_nodes algorithm rows) c i) (related_in_row (slice_get rows n))) ≡ related_groups (table_nodes algorithm rows) c i n
   unfolding table_nodes
-  groups-of_row n row is = ap (λ o. groups_by_hash (with_hashes (related_in_row o))) is
-
-  pub groups-of_none : (n : ℕ) → None ≡ slice_get rows n → [] ≡ related_groups (table_nodes rows) c i n
-  unfolding table_nodes
-  groups-of_none n is = ap (λ o. groups_by_hash (with_hashes (related_in_row o))) is
+  groups-of_row n = refl
 
   -- ---- the members are rows
 
@@ -61,7 +58,7 @@ module _ (rows : List NodeRow) (c i : List ℕ) where
       let all : All (λ (r : Related). r.node < length rows) row.related = subst (λ (w : NodeRow). All (λ (r : Related). r.node < length rows) w.related) (get_or_from_slice_get rows n row row is) (closed n row in') in
       nodes-listed row.related (recursion_from_All (λ (r : Related). r.node < length rows) row.related all)
 
-  groups-listed : (n : ℕ) → IsClosed rows → AllByRecursion (λ (g : Group ℕ). AllByRecursion Listed g.members) (related_groups (table_nodes rows) c i n)
+  groups-listed : (n : ℕ) → IsClosed rows → AllByRecursion (λ (g : Group ℕ). AllByRecursion Listed g.members) (related_groups (table_nodes algorithm rows) c i n)
   unfolding table_nodes
   groups-listed n closed = grouped-all Listed (with_hashes (related_in_row (slice_get rows n))) (row-listed n (slice_get rows n) closed refl)
 
@@ -69,6 +66,6 @@ module _ (rows : List NodeRow) (c i : List ℕ) where
   kept-listed [] all = tt
   kept-listed (g ∷ gs) all = (All-from_recursion Listed g.members all.0, kept-listed gs all.1)
 
-  pub groups-numbered : (n : ℕ) (groups : List NodeGroup) → IsClosed rows → map group_in groups ≡ related_groups (table_nodes rows) c i n → All (λ (g : NodeGroup). All (λ m. m < length rows) g.members) groups
+  pub groups-numbered : (n : ℕ) (groups : List NodeGroup) → IsClosed rows → map group_in groups ≡ related_groups (table_nodes algorithm rows) c i n → All (λ (g : NodeGroup). All (λ m. m < length rows) g.members) groups
   groups-numbered n groups closed is =
       All-from_recursion (λ (g : NodeGroup). All Listed g.members) groups (kept-listed groups (subst (AllByRecursion (λ (g : Group ℕ). AllByRecursion Listed g.members)) (sym is) (groups-listed n closed)))

@@ -19,7 +19,7 @@ use Rattle.rdfc_ndegree.specs.NDegree.{Outcome, Trail, Choice, Calls, issue_temp
 use Rattle.rdfc_ndegree.specs.Run.{with_first_hash, first_groups, if_alone, alone, lacking, take_issuer, take_issuers, RunOutcome, Rounds, IsRun}
 use Rattle.rdfc_ndegree.proofs.Lack.{Grows, AreListed}
 use Rattle.rdfc_ndegree.proofs.Membership.{Contains-filter, AllDiffer-append, AllZip-from_right, AllZip-from_left, same-itself, Contains-from_has, has-from_contains, has-issue, Contains-issue_cases, group_of-member, member-group_of, grouped-has}
-use Rattle.rdfc_ndegree.proofs.Grow.{Grows-issue, IsNDegree-grows}
+use Rattle.rdfc_ndegree.proofs.Grow.{Grows-refl, Grows-trans, Grows-has, Grows-issue, IsNDegree-grows}
 use Rattle.rdfc_ndegree.proofs.Exists.{newly_named-member, groups-listed, first_groups-listed, lacking-listed}
 
 -- ---- issuers name nodes of the dataset only
@@ -60,8 +60,7 @@ module _ {B : Type 0} {v : Nodes B} (laws : AreNodes v) where
   within_lists : (c : List B) (k : ℕ) → CallsList v (IsNDegreeWithin v c k)
   within_lists c zero = λ n i o listed h d. absurd d
   within_lists c (suc k) = λ n i o listed h d.
-      subst (λ (u : Outcome B). AreListed v u.issuer) (sym d.is)
-      (groups_list (IsNDegreeWithin v c k) (within_lists c k) c [] i (related_groups v c i n) d.inner (λ g e m f. groups-listed v laws c i n g m listed e f) h d.groups)
+      groups_list (IsNDegreeWithin v c k) (within_lists c k) c [] i (related_groups v c i n) o (λ g e m f. groups-listed v laws c i n g m listed e f) h d.groups
 
   pub IsNDegree-lists : (c : List B) (n : B) (i : List B) (o : Outcome B) → Contains v.all n → AreListed v i → IsNDegree v c n i o → AreListed v o.issuer
   IsNDegree-lists c n i o listed h d = within_lists c d.within n i o listed h d.call
@@ -84,25 +83,25 @@ module _ {B : Type 0} {v : Nodes B} (laws : AreNodes v) where
   take_issuers-differ c [] d = d
   take_issuers-differ c (o ∷ os) d = take_issuers-differ (take_issuer v c o.issuer) os (take_issuer-differ c o.issuer d)
 
-  take_issuer-grows : (c ns : List B) → Grows v c (take_issuer v c ns)
-  take_issuer-grows c [] = λ x e. e
-  take_issuer-grows c (n ∷ ns) = λ x e. take_issuer-grows (issue v c n) ns x (Grows-issue v c n x e)
+  take_issuer-grows : (c ns : List B) → Grows c (take_issuer v c ns)
+  take_issuer-grows c [] = Grows-refl c
+  take_issuer-grows c (n ∷ ns) = Grows-trans c (issue v c n) (take_issuer v (issue v c n) ns) (Grows-issue v c n) (take_issuer-grows (issue v c n) ns)
 
-  pub take_issuers-grow : (c : List B) (os : List (Outcome B)) → Grows v c (take_issuers v c os)
-  take_issuers-grow c [] = λ x e. e
-  take_issuers-grow c (o ∷ os) = λ x e. take_issuers-grow (take_issuer v c o.issuer) os x (take_issuer-grows c o.issuer x e)
+  pub take_issuers-grow : (c : List B) (os : List (Outcome B)) → Grows c (take_issuers v c os)
+  take_issuers-grow c [] = Grows-refl c
+  take_issuers-grow c (o ∷ os) = Grows-trans c (take_issuer v c o.issuer) (take_issuers v (take_issuer v c o.issuer) os) (take_issuer-grows c o.issuer) (take_issuers-grow (take_issuer v c o.issuer) os)
 
   take_issuer-has : (c ns : List B) (x : B) → Contains ns x → has v (take_issuer v c ns) x ≡ true
   take_issuer-has c [] x k = absurd (Contains-nil x k)
   take_issuer-has c (n ∷ ns) x k =
-      ⊎_elim (λ e. take_issuer-grows (issue v c n) ns x (subst (λ z. has v (issue v c n) z ≡ true) e (has-issue v laws c n)))
+      ⊎_elim (λ e. Grows-has v (issue v c n) (take_issuer v (issue v c n) ns) (take_issuer-grows (issue v c n) ns) x (subst (λ z. has v (issue v c n) z ≡ true) e (has-issue v laws c n)))
       (λ l. take_issuer-has (issue v c n) ns x l) (Contains-cons_cases n ns x k)
 
   pub take_issuers-has : (c : List B) (os : List (Outcome B)) (o : Outcome B) (x : B) → Contains os o → has v o.issuer x ≡ true → has v (take_issuers v c os) x ≡ true
   take_issuers-has c [] o x k e = absurd (Contains-nil o k)
   take_issuers-has c (p ∷ ps) o x k e =
       ⊎_elim
-      (λ s. take_issuers-grow (take_issuer v c p.issuer) ps x (take_issuer-has c p.issuer x (Contains-from_has v laws p.issuer x (subst (λ (q : Outcome B). has v q.issuer x ≡ true) (sym s) e))))
+      (λ s. Grows-has v (take_issuer v c p.issuer) (take_issuers v (take_issuer v c p.issuer) ps) (take_issuers-grow (take_issuer v c p.issuer) ps) x (take_issuer-has c p.issuer x (Contains-from_has v laws p.issuer x (subst (λ (q : Outcome B). has v q.issuer x ≡ true) (sym s) e))))
       (λ l. take_issuers-has (take_issuer v c p.issuer) ps o x l e) (Contains-cons_cases p ps o k)
 
   take_issuer-listed : (c ns : List B) → AreListed v ns → AreListed v c → AreListed v (take_issuer v c ns)
@@ -121,19 +120,20 @@ module _ {B : Type 0} {v : Nodes B} (laws : AreNodes v) where
   Rounds-differ c (g ∷ gs) r d a =
       subst (λ (s : RunOutcome B). AllDiffer s.issuer) (sym d.is) (Rounds-differ (take_issuers v c d.sorted) gs d.rest d.goes_on (take_issuers-differ laws c d.sorted a))
 
-  pub Rounds-grow : (c : List B) (gs : List (Group B)) (r : RunOutcome B) → Rounds v c gs r → Grows v c r.issuer
-  Rounds-grow c [] r d = λ x e. subst (λ (s : RunOutcome B). has v s.issuer x ≡ true) (sym d) e
-  Rounds-grow c (g ∷ gs) r d = λ x e.
-      subst (λ (s : RunOutcome B). has v s.issuer x ≡ true) (sym d.is) (Rounds-grow (take_issuers v c d.sorted) gs d.rest d.goes_on x (take_issuers-grow laws c d.sorted x e))
+  pub Rounds-grow : (c : List B) (gs : List (Group B)) (r : RunOutcome B) → Rounds v c gs r → Grows c r.issuer
+  Rounds-grow c [] r d = subst (λ (s : RunOutcome B). Grows c s.issuer) (sym d) (Grows-refl c)
+  Rounds-grow c (g ∷ gs) r d =
+      let later = Rounds-grow (take_issuers v c d.sorted) gs d.rest d.goes_on in
+      subst (λ (s : RunOutcome B). Grows c s.issuer) (sym d.is) (Grows-trans c (take_issuers v c d.sorted) d.rest.issuer (take_issuers-grow laws c d.sorted) later)
 
   round_names : (c members : List B) (outcomes sorted : List (Outcome B)) (n : B) → AllZip (λ m o. IsNDegree v c m (m ∷ []) o) (lacking v c members) outcomes → IsPermutation outcomes sorted → Contains members n → has v (take_issuers v c sorted) n ≡ true
   round_names c members outcomes sorted n z p k = go (has v c n) refl
     where
       go : (b : Bool) → has v c n ≡ b → has v (take_issuers v c sorted) n ≡ true
-      go true e = take_issuers-grow laws c sorted n e
+      go true e = Grows-has v c (take_issuers v c sorted) (take_issuers-grow laws c sorted) n e
       go false e =
           let found = AllZip-from_left (λ m o. IsNDegree v c m (m ∷ []) o) (lacking v c members) outcomes n z (Contains-filter (λ m. not (has v c m)) members n k (ap not e)) in
-          let issue_temporary : has v found.0.issuer n ≡ true = IsNDegree-grows v c n (n ∷ []) found.0 found.2 n (or_left (v.same n n) false (same-itself v laws n)) in
+          let issue_temporary : has v found.0.issuer n ≡ true = Grows-has v (n ∷ []) found.0.issuer (IsNDegree-grows v c n (n ∷ []) found.0 found.2) n (or_left (v.same n n) false (same-itself v laws n)) in
           take_issuers-has laws c sorted found.0 n (Contains-permutation outcomes sorted found.0 p found.1) issue_temporary
 
   pub Rounds-name : (c : List B) (gs : List (Group B)) (r : RunOutcome B) (g : Group B) (n : B) → Rounds v c gs r → Contains gs g → Contains g.members n → has v r.issuer n ≡ true
@@ -141,7 +141,7 @@ module _ {B : Type 0} {v : Nodes B} (laws : AreNodes v) where
   Rounds-name c (f ∷ fs) r g n d k l =
       subst (λ (s : RunOutcome B). has v s.issuer n ≡ true) (sym d.is)
       (⊎_elim
-      (λ e. Rounds-grow (take_issuers v c d.sorted) fs d.rest d.goes_on n (round_names c f.members d.outcomes d.sorted n d.hashed d.order (subst (λ (h : Group B). Contains h.members n) (sym e) l)))
+      (λ e. Grows-has v (take_issuers v c d.sorted) d.rest.issuer (Rounds-grow (take_issuers v c d.sorted) fs d.rest d.goes_on) n (round_names c f.members d.outcomes d.sorted n d.hashed d.order (subst (λ (h : Group B). Contains h.members n) (sym e) l)))
       (λ m. Rounds-name (take_issuers v c d.sorted) fs d.rest g n d.goes_on m l)
       (Contains-cons_cases f fs g k))
 

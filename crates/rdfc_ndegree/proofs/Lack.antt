@@ -1,5 +1,5 @@
 -- How far the naming of nodes has come: what bounds the depth of n-degree calls. RDF Canonicalization, 4.8.3, step 5.4.
-use Rattle.std.specs.Prelude.{◌≡◌, ℕ, ◌+◌, List, [], ◌∷◌, true, ◌||◌, if◌then◌else◌}
+use Rattle.std.specs.Prelude.{◌≡◌, ℕ, ◌+◌, List, [], ◌∷◌, ◌++◌, ◌||◌, if◌then◌else◌}
 use Rattle.rdfc_ndegree.specs.Nodes.{Nodes}
 use Rattle.rdfc_ndegree.specs.Issuers.{has}
 pub use Rattle.rdfc_ndegree.specs.Internal.Nodes.{AreListed}
@@ -9,6 +9,7 @@ abbrev pub lack : {B : Type 0} → Nodes B → List B → List B → List B → 
 lack v c i [] = 0
 lack v c i (u ∷ us) = (if has v c u || has v i u then 0 else 1) + lack v c i us
 
--- the issuer j has named each node that i has named
-abbrev pub Grows : {B : Type 0} → Nodes B → List B → List B → Type 0
-Grows v i j = (x : _) → has v i x ≡ true → has v j x ≡ true
+-- the issuer j has named what i has named, and then more
+pub record Grows {B : Type 0} (i j : List B) : Type 0 where
+  pub more : List B
+  pub is : j ≡ i ++ more

@@ -3,7 +3,7 @@ use Rattle.std.proofs.Common.{◌≡◌, ℕ, List, filter, Contains, true, not,
 use Rattle.std.proofs.lemmas.List.Elements.{Contains-append_left, Contains-append_right, Contains-append_cases}
 use Rattle.std.specs.List.{flat_map}
 use Rattle.base_types.specs.Sets.{AllDiffer}
-use Rattle.base_types.proofs.Lists.{Contains-from_map}
+use Rattle.base_types.proofs.Lists.{Contains-from_map, Contains-from_flat_map}
 use Rattle.nquads.specs.Terms.{Blank, Statement}
 use Rattle.nquads.specs.Renaming.{same_blank, blanks_of_term, blanks_of_graph, blanks_of, StandsIn}
 use Rattle.nquads.specs.Spelling.{iri_text}
@@ -15,7 +15,7 @@ use Rattle.rdfc_ndegree.specs.Internal.Nodes.{AreNodes}
 use Rattle.rdfc_ndegree.specs.declared.table.Position.{Position}
 use Rattle.rdfc_ndegree.specs.declared.table.Position.TheVariants as position
 use Rattle.rdfc_ndegree.specs.Datasets.{occurrence, occurrences_at, occurrences_in, related_in, nodes_of}
-use Rattle.rdfc_ndegree.proofs.Membership.{Contains-from_filter, Contains-from_flat_map}
+use Rattle.rdfc_ndegree.proofs.Membership.{Contains-from_filter}
 use Rattle.rdfc_ndegree.proofs.Branching.{each_once-from, each_once-has, each_once-differ}
 
 -- the test of blank nodes says true just where they are equal

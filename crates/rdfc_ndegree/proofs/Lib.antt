@@ -14,8 +14,10 @@ pub mod Carry
 pub mod RunCarry
 pub mod TableCarry
 pub mod Renamed
-pub mod NameLemmas
+pub mod NumberLemmas
 pub mod BuildLemmas
+pub mod BuiltRows
+pub mod NodePlaces
 pub mod TableLemmas
 pub mod FirstGroups
 pub mod Tables
@@ -26,6 +28,7 @@ pub mod Adding
 pub mod NextSequence
 pub mod Hashes
 pub mod Pivots
+pub mod FirstTies
 pub mod Bests
 pub mod ProgressLaws
 pub mod Rows

@@ -2,9 +2,9 @@
 use Rattle.std.proofs.Common.{◌≡◌, ℕ, suc, ◌+◌, ◌<◌, List, [], ◌∷◌, ◌++◌, map, length, get_or, filter, Contains, Bool, true, false, ◌||◌, cond, bytes_eq, refl, sym, ap, ◌∙◌, subst, inl, inr, ⊎_elim, ◌⊎◌, ◌↔◌, arith}
 use Rattle.std.proofs.lemmas.Bool.{false≢true, or_left, or_right, cond_both}
 use Rattle.std.proofs.lemmas.List.Folds.{list_any-append}
-use Rattle.std.proofs.lemmas.List.Elements.{Contains-append_left, Contains-append_right, Contains-append_cases}
+use Rattle.std.proofs.lemmas.List.Elements.{Contains-append_cases}
 use Rattle.std.proofs.lemmas.Slice.Eq.{bytes_eq-Decides}
-use Rattle.std.specs.List.{AllZip, flat_map}
+use Rattle.std.specs.List.{AllZip}
 use Rattle.base_types.specs.Order.{sorted_set}
 use Rattle.base_types.specs.Sets.{AllDiffer}
 use Rattle.base_types.proofs.Lists.{Contains-here, Contains-there, Contains-cons_cases, Contains-nil, Contains-map, Contains-from_map}
@@ -36,22 +36,6 @@ Contains-from_filter p (y ∷ ys) x m = go (p y) refl m (Contains-from_filter p 
     go : (b : Bool) → p y ≡ b → Contains (cond b (y ∷ filter p ys) (filter p ys)) x → (Contains (filter p ys) x → Contains ys x × (p x ≡ true)) → Contains (y ∷ ys) x × (p x ≡ true)
     go true e n h = ⊎_elim (λ s. (subst (Contains (y ∷ ys)) s (Contains-here y ys), ap p (sym s) ∙ e)) (λ k. (Contains-there y ys x (h k).0, (h k).1)) (Contains-cons_cases y (filter p ys) x n)
     go false e n h = (Contains-there y ys x (h n).0, (h n).1)
-
--- an element of the joined images is one of some image
-pub Contains-from_flat_map : {X Y : Type 0} (f : X → List Y) (xs : List X) (y : Y) → Contains (flat_map f xs) y → (x : X) × Contains xs x × Contains (f x) y
-Contains-from_flat_map f [] y m = absurd (Contains-nil y m)
-Contains-from_flat_map f (x ∷ xs) y m =
-    ⊎_elim (λ n. (x, Contains-here x xs, n))
-    (λ n. let r = Contains-from_flat_map f xs y n in (r.0, Contains-there x xs r.0 r.1, r.2))
-    (Contains-append_cases (f x) (flat_map f xs) y m)
-
--- an element of an image is one of the joined images
-pub Contains-flat_map : {X Y : Type 0} (f : X → List Y) (xs : List X) (x : X) (y : Y) → Contains xs x → Contains (f x) y → Contains (flat_map f xs) y
-Contains-flat_map f [] x y m n = absurd (Contains-nil x m)
-Contains-flat_map f (z ∷ zs) x y m n =
-    ⊎_elim (λ s. Contains-append_left (f z) (flat_map f zs) y (subst (λ w. Contains (f w) y) (sym s) n))
-    (λ k. Contains-append_right (f z) (flat_map f zs) y (Contains-flat_map f zs x y k n))
-    (Contains-cons_cases z zs x m)
 
 -- two lists without repeats and with nothing in common have no repeats together
 pub AllDiffer-append : {X : Type 0} (xs ys : List X) → AllDiffer xs → AllDiffer ys → ((x : X) → Contains xs x → Contains ys x → ⊥) → AllDiffer (xs ++ ys)

@@ -13,11 +13,11 @@ use Rattle.std.proofs.lemmas.List.Kept.{IsStrictlySortedBy-filter}
 use Rattle.std.proofs.lemmas.List.Sorted.{IsPermutation-refl, IsPermutation-sym, IsPermutation-trans, IsPermutation-cons, IsPermutation-middle, IsPermutation-reverse, sum_by-IsPermutation, IsNonDecreasingBy-from_sort}
 use Rattle.base_types.specs.Order.{is_upto, sorted_set}
 use Rattle.base_types.specs.Sets.{SameElements}
-use Rattle.base_types.proofs.Lists.{Contains-here, Contains-there, Contains-cons_cases, Contains-nil, Contains-map, Contains-from_map, strictly_sorted-unique, AllDiffer-strictly_sorted}
+use Rattle.base_types.proofs.Lists.{Contains-here, Contains-there, Contains-cons_cases, Contains-nil, Contains-map, Contains-from_map, strictly_sorted-unique, AllDiffer-strictly_sorted, Contains-flat_map, Contains-from_flat_map}
 use Rattle.base_types.proofs.Orders.{text_cmp, is_upto-cmp, by_cmp, is_upto-refl, is_upto-antisymmetric, is_upto-transitive, less_upto}
 use Rattle.base_types.proofs.Rising.{rising-rises, rising-same}
 use Rattle.rdfc_ndegree.specs.NDegree.{AreArrangements}
-use Rattle.rdfc_ndegree.proofs.Membership.{Contains-filter, Contains-from_filter, Contains-flat_map, Contains-from_flat_map}
+use Rattle.rdfc_ndegree.proofs.Membership.{Contains-filter, Contains-from_filter}
 use Rattle.rdfc_ndegree.proofs.Permutations.{Each-from_contains}
 use Rattle.rdfc_ndegree.specs.Sequences.{put_everywhere, orders_of, left_from}
 use Rattle.rdfc_ndegree.specs.Internal.Sequences.{Falls, IsStep, Advances}

@@ -1,12 +1,12 @@
--- The places that the canonical issuer keeps.
+-- The places that issuers keep.
 use Rattle.std.proofs.Common.{◌≡◌, ℕ, zero, suc, ◌+◌, ◌<◌, ◌≤◌, List, [], ◌∷◌, ◌++◌, length, get_or, take, replicate, set, refl, sym, ap, ◌∙◌, subst, arith, Option, Some, None, Bool, true, false, cond, ◌==◌, ◌||◌}
 use Rattle.std.specs.Prelude.{◌≢◌, slice_get, is_some}
 use Rattle.std.specs.List.{list_any}
 use Rattle.std.proofs.lemmas.Bool.Decides.{nat_tests}
-use Rattle.std.proofs.lemmas.List.{take_all}
+use Rattle.std.proofs.lemmas.List.{take_all, length-take-le}
 use Rattle.std.proofs.lemmas.List.Quantifiers.{all_pairs_push}
-use Rattle.rdfc_ndegree.specs.NumberIssuers.{number_in, place_in, place_at, ArePlaces}
-use Rattle.rdfc_ndegree.proofs.Tables.{place-none}
+use Rattle.rdfc_ndegree.specs.NumberIssuers.{number_in, place_in, place_at, ArePlaces, HasPlaces}
+use Rattle.rdfc_ndegree.proofs.Tables.{place-none, place-some}
 
 -- ---- room
 
@@ -27,12 +27,20 @@ kept-resized old new room k n is fits =
     ap (λ ps. place_at (slice_get ps n)) (is ∙ ap (λ ps. ps ++ replicate k None) whole) ∙ kept-longer old k n
 
 -- the places of an issuer that has named nothing
+pub HasPlaces-empty : (k : ℕ) → HasPlaces (replicate k None) []
+HasPlaces-empty k = λ n. kept-none k n
+
+-- an issuer that has named nothing, whose numbers differ
 pub ArePlaces-empty : (k : ℕ) → ArePlaces (replicate k None) []
-ArePlaces-empty k = record { differ = λ i j d below in'. omega arith; each = λ n. kept-none k n }
+ArePlaces-empty k = record { differ = λ i j d below in'. omega arith; each = HasPlaces-empty k }
 
 -- places that are kept under more entries are the places of the same order
+pub HasPlaces-longer : (old new : List (Option ℕ)) (order : List ℕ) → HasPlaces old order → ((n : ℕ) → place_at (slice_get new n) ≡ place_at (slice_get old n)) → HasPlaces new order
+HasPlaces-longer old new order h same = λ n. same n ∙ h n
+
+-- the same of an order whose numbers differ
 pub ArePlaces-longer : (old new : List (Option ℕ)) (order : List ℕ) → ArePlaces old order → ((n : ℕ) → place_at (slice_get new n) ≡ place_at (slice_get old n)) → ArePlaces new order
-ArePlaces-longer old new order a same = record { differ = a.differ; each = λ n. same n ∙ a.each n }
+ArePlaces-longer old new order a same = record { differ = a.differ; each = HasPlaces-longer old new order a.each same }
 
 -- ---- one more place
 
@@ -75,14 +83,18 @@ place-push_same xs n none =
     let at = number-push_same xs n none in
     rw (named, at) refl
 
+-- one that stands in the list already keeps its place
+place-push_named : (xs : List ℕ) (m n : ℕ) → list_any (λ k. k == n) xs ≡ true → place_in (xs ++ m ∷ []) n ≡ place_in xs n
+place-push_named xs m n e =
+    let named : list_any (λ k. k == n) (xs ++ m ∷ []) ≡ true = any-push xs m n ∙ rw e refl in
+    let at = number-push_other xs m n e in
+    rw (named, at, e) refl
+
 place-push_other : (xs : List ℕ) (m n : ℕ) → (m == n) ≡ false → place_in (xs ++ m ∷ []) n ≡ place_in xs n
 place-push_other xs m n other = go (list_any (λ k. k == n) xs) refl
   where
     go : (b : Bool) → list_any (λ k. k == n) xs ≡ b → place_in (xs ++ m ∷ []) n ≡ place_in xs n
-    go true e =
-        let named : list_any (λ k. k == n) (xs ++ m ∷ []) ≡ true = any-push xs m n ∙ rw e refl in
-        let at = number-push_other xs m n e in
-        rw (named, at, e) refl
+    go true e = place-push_named xs m n e
     go false e =
         let none : list_any (λ k. k == n) (xs ++ m ∷ []) ≡ false = any-push xs m n ∙ rw (e, other) refl in
         rw (none, e) refl
@@ -93,22 +105,116 @@ absent-differs (x ∷ xs) n zero d none in' same = let yes : (x == n) ≡ true =
 absent-differs (x ∷ xs) n (suc k) d none in' same = absent-differs xs n k d (grind (arith, nat_tests)) (omega arith) same
 
 -- a number that has no place gets the next one
-pub ArePlaces-push : (places : List (Option ℕ)) (order : List ℕ) (node : ℕ) → ArePlaces places order → list_any (λ m. m == node) order ≡ false → node < length places → ArePlaces (set places node (Some (length order))) (order ++ node ∷ [])
-ArePlaces-push places order node a none in' = record {
-  differ = all_pairs_push (λ x y. x ≢ y) order node a.differ (λ k d below. absent-differs order node k d none below);
-  each = λ n. go n (node == n) refl;
-}
+pub HasPlaces-push : (places : List (Option ℕ)) (order : List ℕ) (node : ℕ) → HasPlaces places order → list_any (λ m. m == node) order ≡ false → node < length places → HasPlaces (set places node (Some (length order))) (order ++ node ∷ [])
+HasPlaces-push places order node h none in' = λ n. go n (node == n) refl
   where
     go : (n : ℕ) (b : Bool) → (node == n) ≡ b → place_at (slice_get (set places node (Some (length order))) n) ≡ place_in (order ++ node ∷ []) n
     go n true e =
         let same : node ≡ n = grind (arith, nat_tests) in
         subst (λ k. place_at (slice_get (set places node (Some (length order))) k) ≡ place_in (order ++ node ∷ []) k) same
         (ap place_at (get-set_same places node (Some (length order)) in') ∙ sym (place-push_same order node none))
-    go n false e = ap place_at (get-set_other places node n (Some (length order)) e) ∙ a.each n ∙ sym (place-push_other order node n e)
+    go n false e = ap place_at (get-set_other places node n (Some (length order)) e) ∙ h n ∙ sym (place-push_other order node n e)
+
+-- one more number, which differs from those before
+pub ArePlaces-push : (places : List (Option ℕ)) (order : List ℕ) (node : ℕ) → ArePlaces places order → list_any (λ m. m == node) order ≡ false → node < length places → ArePlaces (set places node (Some (length order))) (order ++ node ∷ [])
+ArePlaces-push places order node a none in' = record {
+  differ = all_pairs_push (λ x y. x ≢ y) order node a.differ (λ k d below. absent-differs order node k d none below);
+  each = HasPlaces-push places order node a.each none in';
+}
+
+-- ---- the last place, taken back
+
+-- one that has a place keeps it
+place-again : (xs : List ℕ) (m n : ℕ) → list_any (λ k. k == m) xs ≡ true → place_in (xs ++ m ∷ []) n ≡ place_in xs n
+place-again xs m n some = go (m == n) refl
+  where
+    go : (b : Bool) → (m == n) ≡ b → place_in (xs ++ m ∷ []) n ≡ place_in xs n
+    go true e = let same : m ≡ n = grind (arith, nat_tests) in place-push_named xs m n (subst (λ k. list_any (λ j. j == k) xs ≡ true) same some)
+    go false e = place-push_other xs m n e
+
+-- a number that is named once more keeps its first place
+pub HasPlaces-again : (places : List (Option ℕ)) (order : List ℕ) (node : ℕ) → HasPlaces places order → list_any (λ m. m == node) order ≡ true → HasPlaces places (order ++ node ∷ [])
+HasPlaces-again places order node h some = λ n. h n ∙ sym (place-again order node n some)
+
+number-inside : (xs : List ℕ) (n : ℕ) → list_any (λ m. m == n) xs ≡ true → number_in xs n < length xs
+number-inside [] n some = absurd (cc)
+number-inside (x ∷ xs) n some = go (x == n) refl (λ e. number-inside xs n e)
+  where
+    go : (b : Bool) → (x == n) ≡ b → (list_any (λ m. m == n) xs ≡ true → number_in xs n < length xs) → cond b 0 (1 + number_in xs n) < suc (length xs)
+    go true e rest = omega arith
+    go false e rest = let later : list_any (λ m. m == n) xs ≡ true = grind (arith, nat_tests) in let less = rest later in omega arith
+
+-- what is named at the end of a list for the first time stands nowhere before
+first-free : (xs : List ℕ) (n : ℕ) → place_in (xs ++ n ∷ []) n ≡ Some (length xs) → list_any (λ m. m == n) xs ≡ false
+first-free xs n last = go (list_any (λ m. m == n) xs) refl
+  where
+    go : (b : Bool) → list_any (λ m. m == n) xs ≡ b → list_any (λ m. m == n) xs ≡ false
+    go false e = e
+    go true e =
+        let at : place_in xs n ≡ Some (number_in xs n) = rw e refl in
+        let same : Some (number_in xs n) ≡ Some (length xs) = sym at ∙ sym (place-push_named xs n n e) ∙ last in
+        let equal : number_in xs n ≡ length xs = cc in
+        let less = number-inside xs n e in
+        absurd (omega arith)
+
+-- its place goes with it
+HasPlaces-last : (places : List (Option ℕ)) (xs : List ℕ) (node : ℕ) → HasPlaces places (xs ++ node ∷ []) → place_in (xs ++ node ∷ []) node ≡ Some (length xs) → node < length places → HasPlaces (set places node None) xs
+HasPlaces-last places xs node h last in' = λ n. go n (node == n) refl
+  where
+    go : (n : ℕ) (b : Bool) → (node == n) ≡ b → place_at (slice_get (set places node None) n) ≡ place_in xs n
+    go n true e =
+        let same : node ≡ n = grind (arith, nat_tests) in
+        let free = first-free xs node last in
+        let none : place_in xs node ≡ None = rw free refl in
+        subst (λ k. place_at (slice_get (set places node None) k) ≡ place_in xs k) same (ap place_at (get-set_same places node None in') ∙ sym none)
+    go n false e = ap place_at (get-set_other places node n None e) ∙ h n ∙ place-push_other xs node n e
+
+-- one that stands before keeps its place
+HasPlaces-before : (places : List (Option ℕ)) (xs : List ℕ) (node : ℕ) → HasPlaces places (xs ++ node ∷ []) → (place_in (xs ++ node ∷ []) node ≡ Some (length xs) → ⊥) → HasPlaces places xs
+HasPlaces-before places xs node h other = go (list_any (λ m. m == node) xs) refl
+  where
+    go : (b : Bool) → list_any (λ m. m == node) xs ≡ b → HasPlaces places xs
+    go true e = λ n. h n ∙ place-again xs node n e
+    go false e = absurd (other (place-push_same xs node e))
+
+-- a list is all but its last, and its last
+split-last : (xs : List ℕ) (k d : ℕ) → length xs ≡ suc k → xs ≡ take k xs ++ get_or xs k d ∷ []
+split-last [] k d long = absurd (omega arith)
+split-last (x ∷ []) zero d long = refl
+split-last (x ∷ y ∷ ys) zero d long = absurd (omega arith)
+split-last (x ∷ xs) (suc k) d long = ap (λ zs. x ∷ zs) (split-last xs k d (omega arith))
+
+-- the same with what the program has at hand
+pub taken-last : (places : List (Option ℕ)) (order : List ℕ) (k node : ℕ) → HasPlaces places order → length order ≡ suc k → node ≡ get_or order k node → place_in order node ≡ Some k → node < length places → HasPlaces (set places node None) (take k order)
+taken-last places order k node h long is last in' =
+    let split : order ≡ take k order ++ node ∷ [] = split-last order k node long ∙ ap (λ n. take k order ++ n ∷ []) (sym is) in
+    let len : length (take k order) ≡ k = length-take-le k order (omega arith) in
+    HasPlaces-last places (take k order) node (subst (HasPlaces places) split h) (ap (λ xs. place_in xs node) (sym split) ∙ last ∙ ap Some (sym len)) in'
+
+-- a number that was named before keeps its place when its last naming is taken back
+pub taken-before : (places : List (Option ℕ)) (order : List ℕ) (k node : ℕ) → HasPlaces places order → length order ≡ suc k → node ≡ get_or order k node → (place_in order node ≡ Some k → ⊥) → HasPlaces places (take k order)
+taken-before places order k node h long is other =
+    let split : order ≡ take k order ++ node ∷ [] = split-last order k node long ∙ ap (λ n. take k order ++ n ∷ []) (sym is) in
+    let len : length (take k order) ≡ k = length-take-le k order (omega arith) in
+    HasPlaces-before places (take k order) node (subst (HasPlaces places) split h) (λ e. other (ap (λ xs. place_in xs node) split ∙ e ∙ ap Some len))
+
+-- a number whose place is kept has room
+pub kept-room : (places : List (Option ℕ)) (order : List ℕ) (n k : ℕ) → HasPlaces places order → place_in order n ≡ Some k → n < length places
+kept-room places order n k h at = go places n (h n ∙ at)
+  where
+    go : (ps : List (Option ℕ)) (m : ℕ) → place_at (slice_get ps m) ≡ Some k → m < length ps
+    go [] m e = absurd (cc)
+    go (p ∷ ps) zero e = omega arith
+    go (p ∷ ps) (suc m) e = let rest = go ps m e in omega arith
 
 -- where no place is kept the number is not named
 pub not-named : (order seen : List ℕ) (n : ℕ) (place : Option ℕ) → order ≡ seen → place ≡ place_in seen n → is_some place ≡ false → list_any (λ m. m == n) order ≡ false
 not-named order seen n None same is none = ap (list_any (λ m. m == n)) same ∙ place-none seen n (sym is)
 not-named order seen n (Some k) same is none = absurd (cc)
 
-pub ruleset room = (kept-resized, ArePlaces-empty, ArePlaces-longer)
+-- where one is kept it is
+pub is-named : (order seen : List ℕ) (n : ℕ) (place : Option ℕ) → order ≡ seen → place ≡ place_in seen n → is_some place ≡ true → list_any (λ m. m == n) order ≡ true
+is-named order seen n None same is some = absurd (cc)
+is-named order seen n (Some k) same is some = ap (list_any (λ m. m == n)) same ∙ (place-some seen n k (sym is)).0
+
+pub ruleset room = (kept-resized, HasPlaces-empty, HasPlaces-longer, ArePlaces-empty, ArePlaces-longer)

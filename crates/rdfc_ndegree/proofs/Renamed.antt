@@ -21,12 +21,12 @@ use Rattle.rdfc_ndegree.specs.Nodes.{Occurrence}
 use Rattle.rdfc_ndegree.specs.declared.table.Position.{Position}
 use Rattle.rdfc_ndegree.specs.declared.table.Position.TheVariants as position
 use Rattle.rdfc_ndegree.specs.Issuers.{number, canonical_id}
-use Rattle.rdfc_ndegree.specs.Run.{RunOutcome, IsRun, MeetsTie, WorkOver, DepthOver, WithinLimits, IsCanonicalIssuer}
+use Rattle.rdfc_ndegree.specs.Run.{RunOutcome, IsRun, MeetsTie, WorkOver, IsWithinWork, IsCanonicalIssuer}
 use Rattle.rdfc_ndegree.specs.Datasets.{occurrence, occurrences_at, occurrences_in, related_in, nodes_of}
 use Rattle.rdfc_ndegree.proofs.Permutations.{IsPermutation-filter, IsPermutation-flat_map, IsPermutation-from_elements, SameElements-permutation, Each-left, Each-right, Each-filter, Each-from_contains, Each-weaker, map-agree, filter-map, list_any-map}
 use Rattle.rdfc_ndegree.proofs.Lawful.{same_blank-equal, blanks-all, AllDiffer-blanks, related_in-stands}
 use Rattle.rdfc_ndegree.proofs.Carry.{carried, Carries, number-carried, canonical_id-carried}
-use Rattle.rdfc_ndegree.proofs.RunCarry.{result_f, IsRun-carried, MeetsTie-carried, WorkOver-carried, DepthOver-carried, WithinLimits-carried, HasLabels-carried, HasLabels-inside}
+use Rattle.rdfc_ndegree.proofs.RunCarry.{result_f, IsRun-carried, MeetsTie-carried, WorkOver-carried, IsWithinWork-carried, HasLabels-carried, HasLabels-inside}
 
 -- ---- lines and texts under two labellings that agree
 
@@ -186,11 +186,8 @@ module _ (digest : List ℕ → List ℕ) (f : Blank → Blank) (q r : List Stat
   work_there : (n : ℕ) → WorkOver (nodes_of digest q) n → WorkOver (nodes_of digest r) n
   work_there = WorkOver-carried f (StandsIn q) (nodes_of digest q) (nodes_of digest r) renamed-carries renamed-all (blanks-inside q)
 
-  depth_there : (n : ℕ) → DepthOver (nodes_of digest q) n → DepthOver (nodes_of digest r) n
-  depth_there = DepthOver-carried f (StandsIn q) (nodes_of digest q) (nodes_of digest r) renamed-carries renamed-all (blanks-inside q)
-
-  limits_here : (work depth : ℕ) → WithinLimits (nodes_of digest r) work depth → WithinLimits (nodes_of digest q) work depth
-  limits_here = WithinLimits-carried f (StandsIn q) (nodes_of digest q) (nodes_of digest r) renamed-carries renamed-all (blanks-inside q)
+  limit_here : (n : ℕ) → IsWithinWork (nodes_of digest r) n → IsWithinWork (nodes_of digest q) n
+  limit_here = IsWithinWork-carried f (StandsIn q) (nodes_of digest q) (nodes_of digest r) renamed-carries renamed-all (blanks-inside q)
 
   pub HasLabels-renamed : (c : List Blank) → IsCanonicalIssuer (nodes_of digest q) c → IsCanonicalIssuer (nodes_of digest r) (map f c)
   HasLabels-renamed = HasLabels-carried f (StandsIn q) (nodes_of digest q) (nodes_of digest r) renamed-carries renamed-all (blanks-inside q)
@@ -261,11 +258,8 @@ module _ (digest : List ℕ → List ℕ) (f : Blank → Blank) (q r : List Stat
   pub WorkOver-renamed : (n : ℕ) → WorkOver (nodes_of digest q) n ↔ WorkOver (nodes_of digest r) n
   WorkOver-renamed n = (work_there digest f q r o s n, work_there digest back r q back_one_to_one back_order n)
 
-  pub DepthOver-renamed : (n : ℕ) → DepthOver (nodes_of digest q) n ↔ DepthOver (nodes_of digest r) n
-  DepthOver-renamed n = (depth_there digest f q r o s n, depth_there digest back r q back_one_to_one back_order n)
-
-  pub WithinLimits-renamed : (work depth : ℕ) → WithinLimits (nodes_of digest q) work depth ↔ WithinLimits (nodes_of digest r) work depth
-  WithinLimits-renamed work depth = (limits_here digest back r q back_one_to_one back_order work depth, limits_here digest f q r o s work depth)
+  pub IsWithinWork-renamed : (n : ℕ) → IsWithinWork (nodes_of digest q) n ↔ IsWithinWork (nodes_of digest r) n
+  IsWithinWork-renamed n = (limit_here digest back r q back_one_to_one back_order n, limit_here digest f q r o s n)
 
 -- ---- datasets that are the same up to the names of blank nodes
 
@@ -289,11 +283,8 @@ module _ (digest : List ℕ → List ℕ) (q r : List Statement) (e : Same q r) 
   pub Same-WorkOver : (n : ℕ) → WorkOver (nodes_of digest q) n ↔ WorkOver (nodes_of digest r) n
   Same-WorkOver = WorkOver-renamed digest (image e.pairs) q r (one_to_one-from_Same q r e) (order-from_Same q r e i j)
 
-  pub Same-DepthOver : (n : ℕ) → DepthOver (nodes_of digest q) n ↔ DepthOver (nodes_of digest r) n
-  Same-DepthOver = DepthOver-renamed digest (image e.pairs) q r (one_to_one-from_Same q r e) (order-from_Same q r e i j)
-
-  pub Same-WithinLimits : (work depth : ℕ) → WithinLimits (nodes_of digest q) work depth ↔ WithinLimits (nodes_of digest r) work depth
-  Same-WithinLimits = WithinLimits-renamed digest (image e.pairs) q r (one_to_one-from_Same q r e) (order-from_Same q r e i j)
+  pub Same-IsWithinWork : (n : ℕ) → IsWithinWork (nodes_of digest q) n ↔ IsWithinWork (nodes_of digest r) n
+  Same-IsWithinWork = IsWithinWork-renamed digest (image e.pairs) q r (one_to_one-from_Same q r e) (order-from_Same q r e i j)
 
   pub Same-HasLabels : (c : List Blank) → IsCanonicalIssuer (nodes_of digest q) c → IsCanonicalIssuer (nodes_of digest r) (map (image e.pairs) c)
   Same-HasLabels = HasLabels-renamed digest (image e.pairs) q r (one_to_one-from_Same q r e) (order-from_Same q r e i j)

@@ -1,5 +1,5 @@
 -- A run is carried along a map that is one to one on the nodes that are in play.
-use Rattle.std.proofs.Common.{◌≡◌, ℕ, ◌+◌, max, List, [], ◌∷◌, ◌++◌, map, refl, sym, ap, ap₂, ◌∙◌, subst, ⊎_elim, arith, Bool, true, false, not, ◌||◌, bytes_eq}
+use Rattle.std.proofs.Common.{◌≡◌, ℕ, ◌+◌, List, [], ◌∷◌, ◌++◌, map, refl, sym, ap, ap₂, ◌∙◌, subst, ⊎_elim, arith, Bool, true, false, not, ◌||◌, bytes_eq}
 use Rattle.std.specs.Cmp.Lexicographic.{nat_list_eq_equiv}
 use Rattle.std.specs.List.{AllByRecursion, AllZip, list_any}
 use Rattle.std.specs.List.Sorted.{IsPermutation}
@@ -12,12 +12,12 @@ use Rattle.rdfc_ndegree.specs.Nodes.{Nodes}
 use Rattle.rdfc_ndegree.specs.Issuers.{has, issue}
 use Rattle.rdfc_ndegree.specs.Groups.{NodeHash, Group}
 use Rattle.rdfc_ndegree.specs.NDegree.{Outcome, IsNDegree}
-use Rattle.rdfc_ndegree.specs.Run.{with_first_hash, first_groups, if_alone, alone, lacking, take_issuer, take_issuers, InHashOrder, results_tie, work_of, depth_of, RunOutcome, run_more, Rounds, IsRun, MeetsTie, WorkOver, DepthOver, WithinLimits, IsCanonicalIssuer}
+use Rattle.rdfc_ndegree.specs.Run.{with_first_hash, first_groups, if_alone, alone, lacking, take_issuer, take_issuers, InHashOrder, results_tie, work_of, RunOutcome, run_more, Rounds, IsRun, MeetsTie, WorkOver, IsWithinWork, IsCanonicalIssuer}
 use Rattle.rdfc_ndegree.proofs.Permutations.{through_permutation, IsPermutation-filter, AllZip-permutation, Each-permutation, Each-append, Each-filter, Each-map, map-agree, filter-map, list_any-map_each}
 use Rattle.rdfc_ndegree.proofs.Carry.{hashed_f, outcome_f, Carries, SameGroup, Arrives, grouped-carried, has-carried, issue-carried, issue-inside, IsNDegree-carried, IsNDegree-inside}
 
 abbrev pub result_f : {A B : Type 0} → (A → B) → RunOutcome A → RunOutcome B
-result_f f r = record { issuer = map f r.issuer; tie = r.tie; work = r.work; depth = r.depth }
+result_f f r = record { issuer = map f r.issuer; tie = r.tie; work = r.work }
 
 -- ---- what the outcomes of a round give in any order
 
@@ -39,14 +39,12 @@ module _ {B : Type 0} where
     pub order : IsPermutation os ps
     pub tie : results_tie os ≡ results_tie ps
     pub work : work_of os ≡ work_of ps
-    pub depth : depth_of os ≡ depth_of ps
 
   counted_under : (o : Outcome B) (os ps : List (Outcome B)) → Counted os ps → Counted (o ∷ os) (o ∷ ps)
   counted_under o os ps r = record {
     order = IsPermutation-cons o os ps r.order;
     tie = ap₂ (λ b c. o.tie || b || c) (list_any-IsPermutation (λ p. bytes_eq p.hash o.hash) os ps r.order) r.tie;
     work = ap (λ n. o.work + n) r.work;
-    depth = ap (λ n. max o.depth n) r.depth;
   }
 
   counted_exchange : (o p : Outcome B) (os : List (Outcome B)) → Counted (o ∷ (p ∷ os)) (p ∷ (o ∷ os))
@@ -56,13 +54,12 @@ module _ {B : Type 0} where
         ap (λ b. o.tie || (b || list_any (λ q. bytes_eq q.hash o.hash) os) || results_tie (p ∷ os)) (nat_list_eq_equiv.symm p.hash o.hash)
         ∙ or_exchanged o.tie p.tie (bytes_eq o.hash p.hash) (list_any (λ q. bytes_eq q.hash o.hash) os) (list_any (λ q. bytes_eq q.hash p.hash) os) (results_tie os);
     work = omega arith;
-    depth = omega arith;
   }
 
   counted : (os ps : List (Outcome B)) → IsPermutation os ps → Counted os ps
   counted =
-      through_permutation Counted (λ os. record { order = IsPermutation-refl os; tie = refl; work = refl; depth = refl })
-      (λ os ps qs a b. record { order = IsPermutation-trans os ps qs a.order b.order; tie = a.tie ∙ b.tie; work = a.work ∙ b.work; depth = a.depth ∙ b.depth })
+      through_permutation Counted (λ os. record { order = IsPermutation-refl os; tie = refl; work = refl })
+      (λ os ps qs a b. record { order = IsPermutation-trans os ps qs a.order b.order; tie = a.tie ∙ b.tie; work = a.work ∙ b.work })
       counted_under counted_exchange
 
   pub results_tie-permuted : (os ps : List (Outcome B)) → IsPermutation os ps → results_tie os ≡ results_tie ps
@@ -77,17 +74,12 @@ module _ {A B : Type 0} (f : A → B) where
   work_kept [] = refl
   work_kept (o ∷ os) = ap (λ n. o.work + n) (work_kept os)
 
-  depth_kept : (os : List (Outcome A)) → depth_of (map (outcome_f f) os) ≡ depth_of os
-  depth_kept [] = refl
-  depth_kept (o ∷ os) = ap (λ n. max o.depth n) (depth_kept os)
-
   more_kept : (os : List (Outcome A)) (ps : List (Outcome B)) (r : RunOutcome A) → IsPermutation (map (outcome_f f) os) ps → result_f f (run_more os r) ≡ run_more ps (result_f f r)
   more_kept os ps r s =
       let same = counted (map (outcome_f f) os) ps s in
       let tie : results_tie os ≡ results_tie ps = sym (tie_kept os) ∙ same.tie in
       let work : work_of os ≡ work_of ps = sym (work_kept os) ∙ same.work in
-      let deep : depth_of os ≡ depth_of ps = sym (depth_kept os) ∙ same.depth in
-      λ j. record { issuer = map f r.issuer; tie = tie j || r.tie; work = work j + r.work; depth = max (deep j) r.depth }
+      λ j. record { issuer = map f r.issuer; tie = tie j || r.tie; work = work j + r.work }
 
   hash_order_kept : (os : List (Outcome A)) → InHashOrder os → InHashOrder (map (outcome_f f) os)
   hash_order_kept [] h = tt
@@ -226,12 +218,9 @@ module _ {A B : Type 0} (f : A → B) (Dom : A → Type 0) (v : Nodes A) (w : No
     pub WorkOver-carried : (n : ℕ) → WorkOver v n → WorkOver w n
     WorkOver-carried n t = record { run = result_f f t.run; is_run = IsRun-carried t.run t.is_run; over = t.over }
 
-    pub DepthOver-carried : (n : ℕ) → DepthOver v n → DepthOver w n
-    DepthOver-carried n t = record { run = result_f f t.run; is_run = IsRun-carried t.run t.is_run; over = t.over }
-
-    -- limits that every run there keeps are kept here
-    pub WithinLimits-carried : (work depth : ℕ) → WithinLimits w work depth → WithinLimits v work depth
-    WithinLimits-carried work depth h = λ r d. h (result_f f r) (IsRun-carried r d)
+    -- a limit that every run there keeps is kept here
+    pub IsWithinWork-carried : (n : ℕ) → IsWithinWork w n → IsWithinWork v n
+    IsWithinWork-carried n h = λ r d. h (result_f f r) (IsRun-carried r d)
 
     pub HasLabels-carried : (c : List A) → IsCanonicalIssuer v c → IsCanonicalIssuer w (map f c)
     HasLabels-carried c t = record { run = result_f f t.run; is_run = IsRun-carried t.run t.is_run; no_tie = t.no_tie; is = ap (map f) t.is }

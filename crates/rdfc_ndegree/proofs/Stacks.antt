@@ -1,5 +1,5 @@
 -- The stack of what waits: one more on it, the highest taken off it, and a fault through all of it.
-use Rattle.std.proofs.Common.{◌≡◌, ℕ, ◌+◌, ◌≤◌, List, [], ◌∷◌, ◌++◌, true, refl, sym, subst, arith}
+use Rattle.std.proofs.Common.{◌≡◌, ℕ, ◌+◌, List, [], ◌∷◌, ◌++◌, true, refl, sym, subst}
 use Rattle.base_types.proofs.Lists.{Contains-here, Contains-there}
 use Rattle.rdfc_ndegree.specs.Internal.Nodes.{AreNodes}
 use Rattle.rdfc_ndegree.specs.Internal.Frames.{Setting, Task, call_task, choice_task, trail_task, task_of, IsFit, Answers, IsTaskFault, members_left, groups_left, group_with, Waits, is_reply_to, Stands, Moves, OnStack}
@@ -18,62 +18,55 @@ use Rattle.rdfc_ndegree.proofs.ProgressLaws.{walking-fault, choosing-fault, grou
 
 -- ---- kinds of replies
 
-choice-replies : (s : Setting) (t : CallState) (hash i members : List ℕ) (before depth after : ℕ) (r : Reply) → Answers s (choice_task i members before depth) r after → is_reply_to (waiting.Call t hash) r ≡ true
-choice-replies s t hash i members before depth after (reply.Call p) h = absurd h
-choice-replies s t hash i members before depth after (reply.Choice x) h = refl
-choice-replies s t hash i members before depth after (reply.Trail e) h = absurd h
+choice-replies : (s : Setting) (t : CallState) (hash i members : List ℕ) (before : ℕ) (now : List ℕ) (after : ℕ) (r : Reply) → Answers s (choice_task i members before) r now after → is_reply_to (waiting.Call t hash) r ≡ true
+choice-replies s t hash i members before now after (reply.Call p) h = absurd h
+choice-replies s t hash i members before now after (reply.Choice x) h = refl
+choice-replies s t hash i members before now after (reply.Trail e) h = absurd h
 
-trail-replies : (s : Setting) (t : ChoiceState) (i p : List ℕ) (before depth after : ℕ) (r : Reply) → Answers s (trail_task i p before depth) r after → is_reply_to (waiting.Choice t) r ≡ true
-trail-replies s t i p before depth after (reply.Call q) h = absurd h
-trail-replies s t i p before depth after (reply.Choice x) h = absurd h
-trail-replies s t i p before depth after (reply.Trail e) h = refl
+trail-replies : (s : Setting) (t : ChoiceState) (i p : List ℕ) (before : ℕ) (now : List ℕ) (after : ℕ) (r : Reply) → Answers s (trail_task i p before) r now after → is_reply_to (waiting.Choice t) r ≡ true
+trail-replies s t i p before now after (reply.Call q) h = absurd h
+trail-replies s t i p before now after (reply.Choice x) h = absurd h
+trail-replies s t i p before now after (reply.Trail e) h = refl
 
-call-replies : (s : Setting) (t : TrailState) (member n : ℕ) (i : List ℕ) (before depth after : ℕ) (r : Reply) → Answers s (call_task n i before depth) r after → is_reply_to (waiting.Trail t member) r ≡ true
-call-replies s t member n i before depth after (reply.Call p) h = refl
-call-replies s t member n i before depth after (reply.Choice x) h = absurd h
-call-replies s t member n i before depth after (reply.Trail e) h = absurd h
+call-replies : (s : Setting) (t : TrailState) (kept n : ℕ) (i : List ℕ) (before : ℕ) (now : List ℕ) (after : ℕ) (r : Reply) → Answers s (call_task n i before) r now after → is_reply_to (waiting.Trail t kept) r ≡ true
+call-replies s t kept n i before now after (reply.Call p) h = refl
+call-replies s t kept n i before now after (reply.Choice x) h = absurd h
+call-replies s t kept n i before now after (reply.Trail e) h = absurd h
 
 -- a reply to what is asked is one that what waits can go on with
-waits-reply : (s : Setting) (w : Waiting) (whole part : Task) (r : Reply) (after : ℕ) → Waits s w whole part → Answers s part r after → is_reply_to w r ≡ true
-waits-reply s (waiting.Call t hash) whole part r after h a =
-    choice-replies s t hash h.current h.members h.spent t.depth after r (subst (λ z. Answers s z r after) h.part_is a)
-waits-reply s (waiting.Choice t) whole part r after h a =
-    trail-replies s t t.issuer h.arrangement (h.spent + 1) t.depth after r (subst (λ z. Answers s z r after) h.part_is a)
-waits-reply s (waiting.Trail t member) whole part r after h a =
-    call-replies s t member member t.issuer h.spent (t.depth + 1) after r (subst (λ z. Answers s z r after) h.part_is a)
+waits-reply : (s : Setting) (w : Waiting) (whole part : Task) (r : Reply) (now : List ℕ) (after : ℕ) → Waits s w whole part → Answers s part r now after → is_reply_to w r ≡ true
+waits-reply s (waiting.Call t hash) whole part r now after h a =
+    choice-replies s t hash h.current h.members h.spent now after r (subst (λ z. Answers s z r now after) h.part_is a)
+waits-reply s (waiting.Choice t) whole part r now after h a =
+    trail-replies s t h.issuer h.arrangement (h.spent + 1) now after r (subst (λ z. Answers s z r now after) h.part_is a)
+waits-reply s (waiting.Trail t kept) whole part r now after h a =
+    call-replies s t kept h.member h.current h.spent now after r (subst (λ z. Answers s z r now after) h.part_is a)
 
 -- ---- what is asked, and faults in it
 
 -- what is asked may be begun
 waits-fit : (s : Setting) → AreNodes s.nodes → (w : Waiting) (whole part : Task) → Waits s w whole part → IsFit s part
 waits-fit s laws (waiting.Call t hash) whole part h =
-    let k = h.stands.grouping in
-    let room = k.within in
-    let fits : t.depth ≤ s.limits.depth = omega arith in
-    subst (IsFit s) (sym h.part_is) (h.stands.listed (group_with hash h.members) (Contains-here (group_with hash h.members) (groups_left t)), fits)
+    subst (IsFit s) (sym h.part_is) (h.stands.listed (group_with hash h.members) (Contains-here (group_with hash h.members) (groups_left t)))
 waits-fit s laws (waiting.Choice t) whole part h =
     let k = h.stands.choosing in
-    let room = k.within in
-    let fits : t.depth ≤ s.limits.depth = omega arith in
-    subst (IsFit s) (sym h.part_is) (listed-arrangement laws s.canonical h.members h.arrangement k.done t.left k.all h.stands.listed, fits)
-waits-fit s laws (waiting.Trail t member) whole part h =
-    let room = h.room in
-    let fits : t.depth + 1 ≤ s.limits.depth = omega arith in
-    subst (IsFit s) (sym h.part_is) (h.stands.listed member (Contains-here member (members_left t)), fits)
+    subst (IsFit s) (sym h.part_is) (listed-arrangement laws s.canonical h.members h.arrangement k.done t.left k.all h.stands.listed)
+waits-fit s laws (waiting.Trail t kept) whole part h =
+    subst (IsFit s) (sym h.part_is) (h.stands.listed h.member (Contains-here h.member (members_left t)))
 
 -- a fault in what is asked is one in what waits for it
 waits-fault : (s : Setting) → AreNodes s.nodes → (w : Waiting) (whole part : Task) → Waits s w whole part → (e : CanonFault) → IsTaskFault s part e → IsTaskFault s whole e
 waits-fault s laws (waiting.Call t hash) whole part h e f =
-    let inner : IsTaskFault s (choice_task h.current h.members h.spent t.depth) e = subst (λ z. IsTaskFault s z e) h.part_is f in
+    let inner : IsTaskFault s (choice_task h.current h.members h.spent) e = subst (λ z. IsTaskFault s z e) h.part_is f in
     subst (λ z. IsTaskFault s z e) (sym h.whole_is)
     (grouping-fault laws s.canonical h.stands.grouping (λ g k. h.stands.listed g (Contains-there (group_with hash h.members) (groups_left t) g k)) refl e inner)
 waits-fault s laws (waiting.Choice t) whole part h e f =
-    let inner : IsTaskFault s (trail_task t.issuer h.arrangement (h.spent + 1) t.depth) e = subst (λ z. IsTaskFault s z e) h.part_is f in
+    let inner : IsTaskFault s (trail_task h.issuer h.arrangement (h.spent + 1)) e = subst (λ z. IsTaskFault s z e) h.part_is f in
     subst (λ z. IsTaskFault s z e) (sym h.whole_is) (choosing-fault laws s.canonical h.stands.choosing h.stands.listed refl e inner)
-waits-fault s laws (waiting.Trail t member) whole part h e f =
-    let inner : IsTaskFault s (call_task member t.issuer h.spent (t.depth + 1)) e = subst (λ z. IsTaskFault s z e) h.part_is f in
+waits-fault s laws (waiting.Trail t kept) whole part h e f =
+    let inner : IsTaskFault s (call_task h.member h.current h.spent) e = subst (λ z. IsTaskFault s z e) h.part_is f in
     subst (λ z. IsTaskFault s z e) (sym h.whole_is)
-    (walking-fault laws s.canonical h.stands.walking (λ m k. h.stands.listed m (Contains-there member (members_left t) m k)) refl e inner)
+    (walking-fault laws s.canonical h.stands.walking (λ m k. h.stands.listed m (Contains-there h.member (members_left t) m k)) refl e inner)
 
 -- ---- the stack
 
@@ -101,50 +94,50 @@ stands-fault s laws (w ∷ ws) whole part h e f = waits-fault s laws w whole h.t
 
 -- ---- one turn
 
-module _ {s : Setting} {whole : Task} {stack : List Waiting} {spent : ℕ} {next : Move} where
-  asked : {w : Waiting} {q : Question} (on : OnStack s whole stack spent next) → next ≡ move.Waits w q → Waits s w on.task (task_of q spent)
-  asked on is = subst (Moves s on.task spent) is on.moves
+module _ {s : Setting} {whole : Task} {stack : List Waiting} {now : List ℕ} {spent : ℕ} {next : Move} where
+  asked : {w : Waiting} {q : Question} (on : OnStack s whole stack now spent next) → next ≡ move.Waits w q → Waits s w on.task (task_of q now spent)
+  asked on is = subst (Moves s on.task now spent) is on.moves
 
   -- what is asked next may be begun
-  pub asked-fit : {w : Waiting} {q : Question} → AreNodes s.nodes → OnStack s whole stack spent next → next ≡ move.Waits w q → IsFit s (task_of q spent)
-  asked-fit {w = w} {q = q} laws on is = waits-fit s laws w on.task (task_of q spent) (asked on is)
+  pub asked-fit : {w : Waiting} {q : Question} → AreNodes s.nodes → OnStack s whole stack now spent next → next ≡ move.Waits w q → IsFit s (task_of q now spent)
+  asked-fit {w = w} {q = q} laws on is = waits-fit s laws w on.task (task_of q now spent) (asked on is)
 
   -- what asks goes on the stack
-  pub asked-on : {w : Waiting} {q : Question} (stack' : List Waiting) (spent' : ℕ) (next' : Move) → OnStack s whole stack spent next → next ≡ move.Waits w q → stack' ≡ stack ++ w ∷ [] → Moves s (task_of q spent) spent' next' → OnStack s whole stack' spent' next'
-  asked-on {w = w} {q = q} stack' spent' next' on is pushed moves = record {
-    task = task_of q spent;
-    stands = subst (λ ws. Stands s ws whole (task_of q spent)) (sym pushed) (stands-push s stack w whole on.task (task_of q spent) on.stands (asked on is));
+  pub asked-on : {w : Waiting} {q : Question} (stack' : List Waiting) (now' : List ℕ) (spent' : ℕ) (next' : Move) → OnStack s whole stack now spent next → next ≡ move.Waits w q → stack' ≡ stack ++ w ∷ [] → Moves s (task_of q now spent) now' spent' next' → OnStack s whole stack' now' spent' next'
+  asked-on {w = w} {q = q} stack' now' spent' next' on is pushed moves = record {
+    task = task_of q now spent;
+    stands = subst (λ ws. Stands s ws whole (task_of q now spent)) (sym pushed) (stands-push s stack w whole on.task (task_of q now spent) on.stands (asked on is));
     moves = moves;
   }
 
   -- a fault in what is asked
-  pub asked-fault : {w : Waiting} {q : Question} → AreNodes s.nodes → OnStack s whole stack spent next → next ≡ move.Waits w q → (e : CanonFault) → IsTaskFault s (task_of q spent) e → IsTaskFault s whole e
+  pub asked-fault : {w : Waiting} {q : Question} → AreNodes s.nodes → OnStack s whole stack now spent next → next ≡ move.Waits w q → (e : CanonFault) → IsTaskFault s (task_of q now spent) e → IsTaskFault s whole e
   asked-fault {w = w} {q = q} laws on is e f =
-      stands-fault s laws stack whole on.task on.stands e (waits-fault s laws w on.task (task_of q spent) (asked on is) e f)
+      stands-fault s laws stack whole on.task on.stands e (waits-fault s laws w on.task (task_of q now spent) (asked on is) e f)
 
-  given : {r : Reply} (on : OnStack s whole stack spent next) → next ≡ move.Gives r → Answers s on.task r spent
-  given on is = subst (Moves s on.task spent) is on.moves
+  given : {r : Reply} (on : OnStack s whole stack now spent next) → next ≡ move.Gives r → Answers s on.task r now spent
+  given on is = subst (Moves s on.task now spent) is on.moves
 
-  under : (stack' : List Waiting) (w : Waiting) (on : OnStack s whole stack spent next) → stack ≡ stack' ++ w ∷ [] → Popped s stack' w whole on.task
+  under : (stack' : List Waiting) (w : Waiting) (on : OnStack s whole stack now spent next) → stack ≡ stack' ++ w ∷ [] → Popped s stack' w whole on.task
   under stack' w on popped = stands-pop s stack' w whole on.task (subst (λ ws. Stands s ws whole on.task) popped on.stands)
 
   -- the reply is of the right kind
-  pub given-kind : (stack' : List Waiting) (w : Waiting) {r : Reply} → OnStack s whole stack spent next → next ≡ move.Gives r → stack ≡ stack' ++ w ∷ [] → is_reply_to w r ≡ true
-  given-kind stack' w {r = r} on is popped = let u = under stack' w on popped in waits-reply s w u.task on.task r spent u.waits_for (given on is)
+  pub given-kind : (stack' : List Waiting) (w : Waiting) {r : Reply} → OnStack s whole stack now spent next → next ≡ move.Gives r → stack ≡ stack' ++ w ∷ [] → is_reply_to w r ≡ true
+  given-kind stack' w {r = r} on is popped = let u = under stack' w on popped in waits-reply s w u.task on.task r now spent u.waits_for (given on is)
 
   -- what waited goes on
-  pub given-on : (stack' : List Waiting) (w : Waiting) {r : Reply} (spent' : ℕ) (next' : Move) → OnStack s whole stack spent next → next ≡ move.Gives r → stack ≡ stack' ++ w ∷ []
-      → ((task part : Task) → Waits s w task part → Answers s part r spent → Moves s task spent' next') → OnStack s whole stack' spent' next'
-  given-on stack' w spent' next' on is popped moves = let u = under stack' w on popped in record { task = u.task; stands = u.stands; moves = moves u.task on.task u.waits_for (given on is) }
+  pub given-on : (stack' : List Waiting) (w : Waiting) {r : Reply} (now' : List ℕ) (spent' : ℕ) (next' : Move) → OnStack s whole stack now spent next → next ≡ move.Gives r → stack ≡ stack' ++ w ∷ []
+      → ((task part : Task) → Waits s w task part → Answers s part r now spent → Moves s task now' spent' next') → OnStack s whole stack' now' spent' next'
+  given-on stack' w now' spent' next' on is popped moves = let u = under stack' w on popped in record { task = u.task; stands = u.stands; moves = moves u.task on.task u.waits_for (given on is) }
 
   -- a fault in what waited
-  pub given-fault : (stack' : List Waiting) (w : Waiting) {r : Reply} → AreNodes s.nodes → OnStack s whole stack spent next → next ≡ move.Gives r → stack ≡ stack' ++ w ∷ [] → (e : CanonFault)
-      → ((task part : Task) → Waits s w task part → Answers s part r spent → IsTaskFault s task e) → IsTaskFault s whole e
+  pub given-fault : (stack' : List Waiting) (w : Waiting) {r : Reply} → AreNodes s.nodes → OnStack s whole stack now spent next → next ≡ move.Gives r → stack ≡ stack' ++ w ∷ [] → (e : CanonFault)
+      → ((task part : Task) → Waits s w task part → Answers s part r now spent → IsTaskFault s task e) → IsTaskFault s whole e
   given-fault stack' w laws on is popped e f =
       let u = under stack' w on popped in stands-fault s laws stack' whole u.task u.stands e (f u.task on.task u.waits_for (given on is))
 
   -- a reply with nothing on the stack is that of what was begun first
-  pub stack-end : {r : Reply} → OnStack s whole stack spent next → next ≡ move.Gives r → stack ≡ [] → Answers s whole r spent
+  pub stack-end : {r : Reply} → OnStack s whole stack now spent next → next ≡ move.Gives r → stack ≡ [] → Answers s whole r now spent
   stack-end {r = r} on is empty =
       let same : whole ≡ on.task = subst (λ ws. Stands s ws whole on.task) empty on.stands in
-      subst (λ z. Answers s z r spent) (sym same) (given on is)
+      subst (λ z. Answers s z r now spent) (sym same) (given on is)

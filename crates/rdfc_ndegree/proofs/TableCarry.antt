@@ -8,7 +8,8 @@ use Rattle.std.proofs.lemmas.Option.{get_or_from_slice_get, slice_get_within}
 use Rattle.std.proofs.lemmas.List.{map-append}
 use Rattle.std.proofs.lemmas.List.Elements.{All-map, All-nil, All-weaker, All-from_recursion, All-contains, Contains-append_left, Contains-push, Contains-push_cases, Contains-get_or}
 use Rattle.std.proofs.lemmas.List.Sorted.{IsPermutation-refl, IsPermutation-sym, IsPermutation-to_front}
-use Rattle.digest_mac.specs.Digests.{sha256_digits}
+use Rattle.digest_mac.specs.Digests.{digits}
+use Rattle.digest_mac.specs.declared.hash.Hash.{Hash}
 use Rattle.base_types.specs.Sets.{AllDiffer}
 use Rattle.base_types.proofs.Lists.{Contains-nil, Contains-cons_cases}
 use Rattle.nquads.specs.Terms.{Blank, by_label, Statement}
@@ -21,15 +22,15 @@ use Rattle.rdfc_ndegree.specs.Internal.Nodes.{AreNodes}
 use Rattle.rdfc_ndegree.specs.Datasets.{related_in, nodes_of}
 use Rattle.rdfc_ndegree.specs.Table.{numbers_below, occurrence_of, first_in, related_in_row, table_nodes, IsClosed}
 use Rattle.rdfc_ndegree.specs.TableOf.{IsOccurrence, IsRowOf, IsTableOf}
-use Rattle.rdfc_ndegree.specs.declared.table.Related.{Related}
-use Rattle.rdfc_ndegree.specs.declared.table.NodeRow.{NodeRow}
+use Rattle.rdfc_ndegree.specs.Table.{Related}
+use Rattle.rdfc_ndegree.specs.Table.{NodeRow}
 use Rattle.rdfc_ndegree.proofs.Permutations.{AllDiffer-permutation, IsPermutation-from_elements, Each-from_contains}
 use Rattle.rdfc_ndegree.proofs.Lawful.{blanks-all, AllDiffer-blanks}
 use Rattle.rdfc_ndegree.specs.Issuers.{number, canonical_id}
 use Rattle.rdfc_ndegree.specs.NDegree.{Outcome, IsNDegree}
-use Rattle.rdfc_ndegree.specs.Run.{RunOutcome, IsRun, MeetsTie, WorkOver, DepthOver, WithinLimits, IsCanonicalIssuer}
+use Rattle.rdfc_ndegree.specs.Run.{RunOutcome, IsRun, MeetsTie, WorkOver, IsWithinWork, IsCanonicalIssuer}
 use Rattle.rdfc_ndegree.proofs.Carry.{carried, outcome_f, Carries, Carries-back, all-back, number-carried, canonical_id-carried, IsNDegree-carried}
-use Rattle.rdfc_ndegree.proofs.RunCarry.{result_f, IsRun-carried, IsRun-inside, MeetsTie-carried, WorkOver-carried, DepthOver-carried, WithinLimits-carried, HasLabels-carried}
+use Rattle.rdfc_ndegree.proofs.RunCarry.{result_f, IsRun-carried, IsRun-inside, MeetsTie-carried, WorkOver-carried, IsWithinWork-carried, HasLabels-carried}
 
 -- ---- numbers
 
@@ -62,9 +63,9 @@ row_closed rows n (Some row) e h =
     All-map (λ (x : Occurrence ℕ). x.blank < length rows) occurrence_of row.related at_row
 
 -- a table whose rows lead to its own rows is one of nodes
-pub table-lawful : (rows : List NodeRow) → IsClosed rows → AreNodes (table_nodes rows)
+pub table-lawful : (hash : Hash) (rows : List NodeRow) → IsClosed rows → AreNodes (table_nodes hash rows)
 unfolding table_nodes
-table-lawful rows h = record {
+table-lawful hash rows h = record {
   equal = Decides-eqb;
   differ = AllDiffer-numbers (length rows);
   closed = λ n m. All-weaker (λ (o : Occurrence ℕ). o.blank < length rows) (λ (o : Occurrence ℕ). Contains (numbers_below (length rows)) o.blank) (λ o l. numbers-contains (length rows) o.blank l) (related_in_row (slice_get rows n)) (row_closed rows n (slice_get rows n) refl h);
@@ -127,22 +128,22 @@ at-same bs x y a p q =
     (Decides-eqb x y)
 
 -- The table of a dataset carries its numbers to the blank nodes.
-pub table-carries : (q : List Statement) (bs : List Blank) (rows : List NodeRow) → IsTableOf q bs rows → Carries (at bs) (λ k. k < length rows) (table_nodes rows) (nodes_of sha256_digits q)
+pub table-carries : (hash : Hash) (q : List Statement) (bs : List Blank) (rows : List NodeRow) → IsTableOf hash q bs rows → Carries (at bs) (λ k. k < length rows) (table_nodes hash rows) (nodes_of (digits hash) q)
 unfolding table_nodes
-table-carries q bs rows t =
-    let long : length bs ≡ length rows = as_long (IsRowOf q bs) bs rows t.each in
+table-carries hash q bs rows t =
+    let long : length bs ≡ length rows = as_long (IsRowOf hash q bs) bs rows t.each in
     record {
       one_to_one = λ x y p r. at-same bs x y t.differ (omega arith) (omega arith);
       injective = λ x y p r e. at-injective bs x y t.differ (omega arith) (omega arith) e;
       digest = λ text. refl;
-      first = λ x p. let f = paired (IsRowOf q bs) bs rows x no_blank t.each p in sym f.holds.first ∙ ap first_in (sym f.is);
+      first = λ x p. let f = paired (IsRowOf hash q bs) bs rows x no_blank t.each p in sym f.holds.first ∙ ap first_in (sym f.is);
       closed = λ n p.
-          let f = paired (IsRowOf q bs) bs rows n no_blank t.each p in
+          let f = paired (IsRowOf hash q bs) bs rows n no_blank t.each p in
           let below = All-from_recursion (λ (m : Occurrence ℕ). m.blank < length bs) (map occurrence_of f.other.related) (occurrences_below bs (map occurrence_of f.other.related) (related_in q (at bs n)) f.holds.related) in
           subst (λ o. All (λ (m : Occurrence ℕ). m.blank < length rows) (related_in_row o)) (sym f.is)
           (subst (λ k. All (λ (m : Occurrence ℕ). m.blank < k) (map occurrence_of f.other.related)) long below);
       related = λ n p.
-          let f = paired (IsRowOf q bs) bs rows n no_blank t.each p in
+          let f = paired (IsRowOf hash q bs) bs rows n no_blank t.each p in
           let same : map (carried (at bs)) (map occurrence_of f.other.related) ≡ related_in q (at bs n) = occurrences_are bs (map occurrence_of f.other.related) (related_in q (at bs n)) f.holds.related in
           subst (λ o. IsPermutation (map (carried (at bs)) (related_in_row o)) (related_in q (at bs n))) (sym f.is)
           (subst (λ l. IsPermutation l (related_in q (at bs n))) (sym same) (IsPermutation-refl (related_in q (at bs n))));
@@ -157,10 +158,10 @@ at-numbers bs (suc n) p =
     ∙ sym (take-suc bs n no_blank (omega arith))
 
 -- Where each of the blank nodes stands in the dataset, the numbers are carried to all of them.
-pub table-all-carried : (q : List Statement) (bs : List Blank) (rows : List NodeRow) → IsTableOf q bs rows → All (StandsIn q) bs → IsPermutation (map (at bs) (table_nodes rows).all) (nodes_of sha256_digits q).all
+pub table-all-carried : (hash : Hash) (q : List Statement) (bs : List Blank) (rows : List NodeRow) → IsTableOf hash q bs rows → All (StandsIn q) bs → IsPermutation (map (at bs) (table_nodes hash rows).all) (nodes_of (digits hash) q).all
 unfolding table_nodes
-table-all-carried q bs rows t h =
-    let long : length bs ≡ length rows = as_long (IsRowOf q bs) bs rows t.each in
+table-all-carried hash q bs rows t h =
+    let long : length bs ≡ length rows = as_long (IsRowOf hash q bs) bs rows t.each in
     let numbers : map (at bs) (numbers_below (length rows)) ≡ bs = at-numbers bs (length rows) (omega arith) ∙ take_all (length rows) bs (omega arith) in
     let order : IsPermutation bs (blanks q) =
     IsPermutation-from_elements bs (blanks q) t.differ (AllDiffer-blanks q)
@@ -168,44 +169,41 @@ table-all-carried q bs rows t h =
     subst (λ l. IsPermutation l (blanks q)) (sym numbers) order
 
 -- the nodes of a table are its rows
-pub table-all-inside : (rows : List NodeRow) → AllByRecursion (λ k. k < length rows) (table_nodes rows).all
+pub table-all-inside : (hash : Hash) (rows : List NodeRow) → AllByRecursion (λ k. k < length rows) (table_nodes hash rows).all
 unfolding table_nodes
-table-all-inside rows = Each-from_contains (λ k. k < length rows) (numbers_below (length rows)) (λ k m. numbers-below (length rows) k m)
+table-all-inside hash rows = Each-from_contains (λ k. k < length rows) (numbers_below (length rows)) (λ k m. numbers-below (length rows) k m)
 
 -- ---- what a table's calls and runs are in the dataset
 
-module _ (q : List Statement) (bs : List Blank) (rows : List NodeRow) (t : IsTableOf q bs rows) where
-  pub table-IsNDegree : (c : List ℕ) (n : ℕ) (i : List ℕ) (o : Outcome ℕ) → AllByRecursion (λ k. k < length rows) c → AllByRecursion (λ k. k < length rows) i → n < length rows → IsNDegree (table_nodes rows) c n i o → IsNDegree (nodes_of sha256_digits q) (map (at bs) c) (at bs n) (map (at bs) i) (outcome_f (at bs) o)
-  table-IsNDegree = IsNDegree-carried (at bs) (λ k. k < length rows) (table_nodes rows) (nodes_of sha256_digits q) (table-carries q bs rows t)
+module _ (hash : Hash) (q : List Statement) (bs : List Blank) (rows : List NodeRow) (t : IsTableOf hash q bs rows) where
+  pub table-IsNDegree : (c : List ℕ) (n : ℕ) (i : List ℕ) (o : Outcome ℕ) → AllByRecursion (λ k. k < length rows) c → AllByRecursion (λ k. k < length rows) i → n < length rows → IsNDegree (table_nodes hash rows) c n i o → IsNDegree (nodes_of (digits hash) q) (map (at bs) c) (at bs n) (map (at bs) i) (outcome_f (at bs) o)
+  table-IsNDegree = IsNDegree-carried (at bs) (λ k. k < length rows) (table_nodes hash rows) (nodes_of (digits hash) q) (table-carries hash q bs rows t)
 
-  pub table-number : (c : List ℕ) (k : ℕ) → AllByRecursion (λ m. m < length rows) c → k < length rows → number (nodes_of sha256_digits q) (map (at bs) c) (at bs k) ≡ number (table_nodes rows) c k
-  table-number = number-carried (at bs) (λ k. k < length rows) (table_nodes rows) (nodes_of sha256_digits q) (table-carries q bs rows t)
+  pub table-number : (c : List ℕ) (k : ℕ) → AllByRecursion (λ m. m < length rows) c → k < length rows → number (nodes_of (digits hash) q) (map (at bs) c) (at bs k) ≡ number (table_nodes hash rows) c k
+  table-number = number-carried (at bs) (λ k. k < length rows) (table_nodes hash rows) (nodes_of (digits hash) q) (table-carries hash q bs rows t)
 
-  pub table-canonical_id : (c : List ℕ) (k : ℕ) → AllByRecursion (λ m. m < length rows) c → k < length rows → canonical_id (nodes_of sha256_digits q) (map (at bs) c) (at bs k) ≡ canonical_id (table_nodes rows) c k
-  table-canonical_id = canonical_id-carried (at bs) (λ k. k < length rows) (table_nodes rows) (nodes_of sha256_digits q) (table-carries q bs rows t)
+  pub table-canonical_id : (c : List ℕ) (k : ℕ) → AllByRecursion (λ m. m < length rows) c → k < length rows → canonical_id (nodes_of (digits hash) q) (map (at bs) c) (at bs k) ≡ canonical_id (table_nodes hash rows) c k
+  table-canonical_id = canonical_id-carried (at bs) (λ k. k < length rows) (table_nodes hash rows) (nodes_of (digits hash) q) (table-carries hash q bs rows t)
 
   module _ (h : All (StandsIn q) bs) where
-    pub table-IsRun : (r : RunOutcome ℕ) → IsRun (table_nodes rows) r → IsRun (nodes_of sha256_digits q) (result_f (at bs) r)
-    table-IsRun = IsRun-carried (at bs) (λ k. k < length rows) (table_nodes rows) (nodes_of sha256_digits q) (table-carries q bs rows t) (table-all-carried q bs rows t h) (table-all-inside rows)
+    pub table-IsRun : (r : RunOutcome ℕ) → IsRun (table_nodes hash rows) r → IsRun (nodes_of (digits hash) q) (result_f (at bs) r)
+    table-IsRun = IsRun-carried (at bs) (λ k. k < length rows) (table_nodes hash rows) (nodes_of (digits hash) q) (table-carries hash q bs rows t) (table-all-carried hash q bs rows t h) (table-all-inside hash rows)
 
-    pub table-MeetsTie : MeetsTie (table_nodes rows) → MeetsTie (nodes_of sha256_digits q)
-    table-MeetsTie = MeetsTie-carried (at bs) (λ k. k < length rows) (table_nodes rows) (nodes_of sha256_digits q) (table-carries q bs rows t) (table-all-carried q bs rows t h) (table-all-inside rows)
+    pub table-MeetsTie : MeetsTie (table_nodes hash rows) → MeetsTie (nodes_of (digits hash) q)
+    table-MeetsTie = MeetsTie-carried (at bs) (λ k. k < length rows) (table_nodes hash rows) (nodes_of (digits hash) q) (table-carries hash q bs rows t) (table-all-carried hash q bs rows t h) (table-all-inside hash rows)
 
-    pub table-WorkOver : (n : ℕ) → WorkOver (table_nodes rows) n → WorkOver (nodes_of sha256_digits q) n
-    table-WorkOver = WorkOver-carried (at bs) (λ k. k < length rows) (table_nodes rows) (nodes_of sha256_digits q) (table-carries q bs rows t) (table-all-carried q bs rows t h) (table-all-inside rows)
+    pub table-WorkOver : (n : ℕ) → WorkOver (table_nodes hash rows) n → WorkOver (nodes_of (digits hash) q) n
+    table-WorkOver = WorkOver-carried (at bs) (λ k. k < length rows) (table_nodes hash rows) (nodes_of (digits hash) q) (table-carries hash q bs rows t) (table-all-carried hash q bs rows t h) (table-all-inside hash rows)
 
-    pub table-DepthOver : (n : ℕ) → DepthOver (table_nodes rows) n → DepthOver (nodes_of sha256_digits q) n
-    table-DepthOver = DepthOver-carried (at bs) (λ k. k < length rows) (table_nodes rows) (nodes_of sha256_digits q) (table-carries q bs rows t) (table-all-carried q bs rows t h) (table-all-inside rows)
+    pub table-HasLabels : (c : List ℕ) → IsCanonicalIssuer (table_nodes hash rows) c → IsCanonicalIssuer (nodes_of (digits hash) q) (map (at bs) c)
+    table-HasLabels = HasLabels-carried (at bs) (λ k. k < length rows) (table_nodes hash rows) (nodes_of (digits hash) q) (table-carries hash q bs rows t) (table-all-carried hash q bs rows t h) (table-all-inside hash rows)
 
-    pub table-HasLabels : (c : List ℕ) → IsCanonicalIssuer (table_nodes rows) c → IsCanonicalIssuer (nodes_of sha256_digits q) (map (at bs) c)
-    table-HasLabels = HasLabels-carried (at bs) (λ k. k < length rows) (table_nodes rows) (nodes_of sha256_digits q) (table-carries q bs rows t) (table-all-carried q bs rows t h) (table-all-inside rows)
-
-    pub table-WithinLimits : (work depth : ℕ) → WithinLimits (nodes_of sha256_digits q) work depth → WithinLimits (table_nodes rows) work depth
-    table-WithinLimits = WithinLimits-carried (at bs) (λ k. k < length rows) (table_nodes rows) (nodes_of sha256_digits q) (table-carries q bs rows t) (table-all-carried q bs rows t h) (table-all-inside rows)
+    pub table-IsWithinWork : (n : ℕ) → IsWithinWork (nodes_of (digits hash) q) n → IsWithinWork (table_nodes hash rows) n
+    table-IsWithinWork = IsWithinWork-carried (at bs) (λ k. k < length rows) (table_nodes hash rows) (nodes_of (digits hash) q) (table-carries hash q bs rows t) (table-all-carried hash q bs rows t h) (table-all-inside hash rows)
 
     -- the nodes that a run names are rows of the table
-    pub table-issuer : (r : RunOutcome ℕ) → IsRun (table_nodes rows) r → AllByRecursion (λ k. k < length rows) r.issuer
-    table-issuer = IsRun-inside (at bs) (λ k. k < length rows) (table_nodes rows) (nodes_of sha256_digits q) (table-carries q bs rows t) (table-all-carried q bs rows t h) (table-all-inside rows)
+    pub table-issuer : (r : RunOutcome ℕ) → IsRun (table_nodes hash rows) r → AllByRecursion (λ k. k < length rows) r.issuer
+    table-issuer = IsRun-inside (at bs) (λ k. k < length rows) (table_nodes hash rows) (nodes_of (digits hash) q) (table-carries hash q bs rows t) (table-all-carried hash q bs rows t h) (table-all-inside hash rows)
 
 -- ---- and back
 
@@ -226,9 +224,9 @@ place-at (a ∷ bs) b m =
     place_if (same_blank a b) a b bs (place_in bs b) (same_blank-true a b)
     (λ e. place-at bs b (⊎_elim (λ k. absurd (same_blank-false a b e k)) (λ n. n) (Contains-cons_cases a bs b m)))
 
-module _ (q : List Statement) (bs : List Blank) (rows : List NodeRow) (t : IsTableOf q bs rows) where
+module _ (hash : Hash) (q : List Statement) (bs : List Blank) (rows : List NodeRow) (t : IsTableOf hash q bs rows) where
   pub table-length : length bs ≡ length rows
-  table-length = as_long (IsRowOf q bs) bs rows t.each
+  table-length = as_long (IsRowOf hash q bs) bs rows t.each
 
   place_below : (b : Blank) → Contains bs b → place_in bs b < length rows
   place_below b m = let below : place_in bs b < length bs = (place-at bs b m).0 in let same : length bs ≡ length rows = table-length in omega arith
@@ -240,28 +238,25 @@ module _ (q : List Statement) (bs : List Blank) (rows : List NodeRow) (t : IsTab
   place_back b m = (place-at bs b m).1
 
   -- A dataset carries its blank nodes to the numbers of its table.
-  pub dataset-carries : Carries (place_in bs) (Contains bs) (nodes_of sha256_digits q) (table_nodes rows)
-  dataset-carries = Carries-back (at bs) (λ k. k < length rows) (table_nodes rows) (nodes_of sha256_digits q) (table-carries q bs rows t) (place_in bs) (Contains bs) place_below at_contained place_back
+  pub dataset-carries : Carries (place_in bs) (Contains bs) (nodes_of (digits hash) q) (table_nodes hash rows)
+  dataset-carries = Carries-back (at bs) (λ k. k < length rows) (table_nodes hash rows) (nodes_of (digits hash) q) (table-carries hash q bs rows t) (place_in bs) (Contains bs) place_below at_contained place_back
 
   pub dataset-all-inside : AllByRecursion (Contains bs) (blanks q)
   dataset-all-inside = Each-from_contains (Contains bs) (blanks q) (λ b m. t.covers b ((blanks-all q b).1 m))
 
   module _ (h : All (StandsIn q) bs) where
-    pub dataset-all-carried : IsPermutation (map (place_in bs) (blanks q)) (table_nodes rows).all
-    dataset-all-carried = all-back (at bs) (λ k. k < length rows) (table_nodes rows) (nodes_of sha256_digits q) (table-carries q bs rows t) (place_in bs) (Contains bs) place_below at_contained place_back (table-all-carried q bs rows t h) (table-all-inside rows)
+    pub dataset-all-carried : IsPermutation (map (place_in bs) (blanks q)) (table_nodes hash rows).all
+    dataset-all-carried = all-back (at bs) (λ k. k < length rows) (table_nodes hash rows) (nodes_of (digits hash) q) (table-carries hash q bs rows t) (place_in bs) (Contains bs) place_below at_contained place_back (table-all-carried hash q bs rows t h) (table-all-inside hash rows)
 
     -- the table and the dataset meet ties alike, and are over a limit alike
-    pub table-MeetsTie-iff : MeetsTie (table_nodes rows) ↔ MeetsTie (nodes_of sha256_digits q)
-    table-MeetsTie-iff = (table-MeetsTie q bs rows t h, MeetsTie-carried (place_in bs) (Contains bs) (nodes_of sha256_digits q) (table_nodes rows) dataset-carries dataset-all-carried dataset-all-inside)
+    pub table-MeetsTie-iff : MeetsTie (table_nodes hash rows) ↔ MeetsTie (nodes_of (digits hash) q)
+    table-MeetsTie-iff = (table-MeetsTie hash q bs rows t h, MeetsTie-carried (place_in bs) (Contains bs) (nodes_of (digits hash) q) (table_nodes hash rows) dataset-carries dataset-all-carried dataset-all-inside)
 
-    pub table-WorkOver-iff : (n : ℕ) → WorkOver (table_nodes rows) n ↔ WorkOver (nodes_of sha256_digits q) n
-    table-WorkOver-iff n = (table-WorkOver q bs rows t h n, WorkOver-carried (place_in bs) (Contains bs) (nodes_of sha256_digits q) (table_nodes rows) dataset-carries dataset-all-carried dataset-all-inside n)
+    pub table-WorkOver-iff : (n : ℕ) → WorkOver (table_nodes hash rows) n ↔ WorkOver (nodes_of (digits hash) q) n
+    table-WorkOver-iff n = (table-WorkOver hash q bs rows t h n, WorkOver-carried (place_in bs) (Contains bs) (nodes_of (digits hash) q) (table_nodes hash rows) dataset-carries dataset-all-carried dataset-all-inside n)
 
-    pub table-DepthOver-iff : (n : ℕ) → DepthOver (table_nodes rows) n ↔ DepthOver (nodes_of sha256_digits q) n
-    table-DepthOver-iff n = (table-DepthOver q bs rows t h n, DepthOver-carried (place_in bs) (Contains bs) (nodes_of sha256_digits q) (table_nodes rows) dataset-carries dataset-all-carried dataset-all-inside n)
+    pub table-IsWithinWork-iff : (n : ℕ) → IsWithinWork (table_nodes hash rows) n ↔ IsWithinWork (nodes_of (digits hash) q) n
+    table-IsWithinWork-iff n = (IsWithinWork-carried (place_in bs) (Contains bs) (nodes_of (digits hash) q) (table_nodes hash rows) dataset-carries dataset-all-carried dataset-all-inside n, table-IsWithinWork hash q bs rows t h n)
 
-    pub table-WithinLimits-iff : (work depth : ℕ) → WithinLimits (table_nodes rows) work depth ↔ WithinLimits (nodes_of sha256_digits q) work depth
-    table-WithinLimits-iff work depth = (WithinLimits-carried (place_in bs) (Contains bs) (nodes_of sha256_digits q) (table_nodes rows) dataset-carries dataset-all-carried dataset-all-inside work depth, table-WithinLimits q bs rows t h work depth)
-
-    pub dataset-HasLabels : (c : List Blank) → IsCanonicalIssuer (nodes_of sha256_digits q) c → IsCanonicalIssuer (table_nodes rows) (map (place_in bs) c)
-    dataset-HasLabels = HasLabels-carried (place_in bs) (Contains bs) (nodes_of sha256_digits q) (table_nodes rows) dataset-carries dataset-all-carried dataset-all-inside
+    pub dataset-HasLabels : (c : List Blank) → IsCanonicalIssuer (nodes_of (digits hash) q) c → IsCanonicalIssuer (table_nodes hash rows) (map (place_in bs) c)
+    dataset-HasLabels = HasLabels-carried (place_in bs) (Contains bs) (nodes_of (digits hash) q) (table_nodes hash rows) dataset-carries dataset-all-carried dataset-all-inside

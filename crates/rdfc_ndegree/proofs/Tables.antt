@@ -1,52 +1,51 @@
 -- The nodes of a table field by field, and issuers over numbers.
-use Rattle.std.proofs.Common.{◌≡◌, ℕ, zero, suc, ◌+◌, ◌<◌, List, [], ◌∷◌, ◌++◌, length, refl, sym, ap, subst, arith, Contains, Some, None, Bool, true, false, cond, ◌==◌, decimal}
+use Rattle.std.proofs.Common.{◌≡◌, ℕ, ◌+◌, List, [], ◌∷◌, ◌++◌, length, refl, ap, subst, arith, Contains, Some, None, Bool, true, false, cond, ◌==◌, decimal}
 use Rattle.std.specs.Prelude.{slice_get, codes}
-use Rattle.std.proofs.Common.{◌≤◌, get_or, take}
-use Rattle.std.proofs.lemmas.List.{take_all}
 use Rattle.std.specs.List.{list_any}
-use Rattle.digest_mac.specs.Digests.{sha256_digits}
+use Rattle.digest_mac.specs.Digests.{digits}
 use Rattle.std.proofs.lemmas.Bool.Decides.{Decides-eqb, nat_tests}
+use Rattle.digest_mac.specs.declared.hash.Hash.{Hash}
 use Rattle.rdfc_ndegree.specs.Issuers.{has, number, canonical_id, temporary_id}
 use Rattle.rdfc_ndegree.specs.Table.{numbers_below, first_in, related_in_row, table_nodes}
 use Rattle.rdfc_ndegree.specs.NumberIssuers.{number_in, place_in}
-use Rattle.rdfc_ndegree.specs.declared.table.NodeRow.{NodeRow}
+use Rattle.rdfc_ndegree.specs.Table.{NodeRow}
 use Rattle.rdfc_ndegree.proofs.PrefixesAndPairs.{list_any-none}
 use Rattle.std.proofs.lemmas.Bool.{false_from_ne_true}
 
-module _ (rows : List NodeRow) where
-  pub table-all : (table_nodes rows).all ≡ numbers_below (length rows)
+module _ (algorithm : Hash) (rows : List NodeRow) where
+  pub table-all : (table_nodes algorithm rows).all ≡ numbers_below (length rows)
   unfolding table_nodes
   table-all = refl
 
-  pub table-same : (table_nodes rows).same ≡ ◌==◌
+  pub table-same : (table_nodes algorithm rows).same ≡ ◌==◌
   unfolding table_nodes
   table-same = refl
 
-  pub table-digest : (table_nodes rows).digest ≡ sha256_digits
+  pub table-digest : (table_nodes algorithm rows).digest ≡ digits algorithm
   unfolding table_nodes
   table-digest = refl
 
-  pub table-first : (n : ℕ) → (table_nodes rows).first n ≡ first_in (slice_get rows n)
+  pub table-first : (n : ℕ) → (table_nodes algorithm rows).first n ≡ first_in (slice_get rows n)
   unfolding table_nodes
   table-first n = refl
 
-  pub table-related : (n : ℕ) → (table_nodes rows).related n ≡ related_in_row (slice_get rows n)
+  pub table-related : (n : ℕ) → (table_nodes algorithm rows).related n ≡ related_in_row (slice_get rows n)
   unfolding table_nodes
   table-related n = refl
 
-  pub table-has : (c : List ℕ) (n : ℕ) → has (table_nodes rows) c n ≡ list_any (λ m. m == n) c
+  pub table-has : (c : List ℕ) (n : ℕ) → has (table_nodes algorithm rows) c n ≡ list_any (λ m. m == n) c
   unfolding table_nodes
   table-has c n = refl
 
-  pub table-number : (c : List ℕ) (n : ℕ) → number (table_nodes rows) c n ≡ number_in c n
+  pub table-number : (c : List ℕ) (n : ℕ) → number (table_nodes algorithm rows) c n ≡ number_in c n
   unfolding table_nodes
   table-number [] n = refl
   table-number (m ∷ ms) n = let rest = table-number ms n in λ i. cond (m == n) 0 (1 + rest i)
 
-  pub table-canonical_id : (c : List ℕ) (n : ℕ) → canonical_id (table_nodes rows) c n ≡ codes "c14n" ++ decimal (number_in c n)
+  pub table-canonical_id : (c : List ℕ) (n : ℕ) → canonical_id (table_nodes algorithm rows) c n ≡ codes "c14n" ++ decimal (number_in c n)
   table-canonical_id c n = ap (λ k. codes "c14n" ++ decimal k) (table-number c n)
 
-  pub table-temporary_id : (i : List ℕ) (n : ℕ) → temporary_id (table_nodes rows) i n ≡ codes "b" ++ decimal (number_in i n)
+  pub table-temporary_id : (i : List ℕ) (n : ℕ) → temporary_id (table_nodes algorithm rows) i n ≡ codes "b" ++ decimal (number_in i n)
   table-temporary_id i n = ap (λ k. codes "b" ++ decimal k) (table-number i n)
 
 -- ---- places
@@ -75,20 +74,3 @@ number-absent (x ∷ xs) n e = grind (arith, nat_tests, number-absent xs n)
 -- what is not contained is not found
 pub absent-any : (xs : List ℕ) (n : ℕ) → (Contains xs n → ⊥) → list_any (λ m. m == n) xs ≡ false
 absent-any xs n absent = list_any-none (λ m. m == n) xs (λ m k. false_from_ne_true (m == n) (λ e. absent (subst (Contains xs) ((Decides-eqb m n).0 e) k)))
-
--- the first place that holds the number
-pub place-found : (xs : List ℕ) (n k : ℕ) → k < length xs → get_or xs k 0 ≡ n → list_any (λ m. m == n) (take k xs) ≡ false → Some k ≡ place_in xs n
-place-found [] n k in' is none = absurd (omega arith)
-place-found (x ∷ xs) n zero in' is none = let same : (x == n) ≡ true = grind (arith, nat_tests) in rw same refl
-place-found (x ∷ xs) n (suc k) in' is none =
-    let other : (x == n) ≡ false = grind (arith, nat_tests) in
-    let later : list_any (λ m. m == n) (take k xs) ≡ false = grind (arith, nat_tests) in
-    let rest = place-some xs n k (sym (place-found xs n k (omega arith) is later)) in
-    let next : suc k ≡ 1 + number_in xs n = omega (arith, rest.1) in
-    rw (other, rest.0) (ap Some next)
-
--- a number that the search to the end does not meet has no place
-pub place-missing : (xs : List ℕ) (n k : ℕ) → length xs ≤ k → list_any (λ m. m == n) (take k xs) ≡ false → None ≡ place_in xs n
-place-missing xs n k past none = let whole : take k xs ≡ xs = take_all k xs past in let none' = rw whole at none in rw none' refl
-
-pub ruleset places = (place-found, place-missing)

@@ -1,5 +1,5 @@
 -- What the calls of this crate answer, tied to the runs of the call.
-use Rattle.std.specs.Prelude.{◌≡◌, ◌<◌, ◌≤◌, ◌+◌, ℕ, List, Bool}
+use Rattle.std.specs.Prelude.{◌≡◌, ◌<◌, ◌+◌, ℕ, List, Bool}
 use Rattle.rdfc_ndegree.specs.Nodes.{Nodes}
 use Rattle.rdfc_ndegree.specs.NDegree.{Outcome, IsNDegree}
 use Rattle.rdfc_ndegree.specs.declared.limits.Meter.{Meter}
@@ -13,22 +13,17 @@ pub record Answer (B : Type 0) : Type 0 where
 abbrev pub answer : {B : Type 0} → List ℕ → List B → Bool → Answer B
 answer hash issuer tie = record { hash = hash; issuer = issuer; tie = tie }
 
--- The arrangements counted before and after, the number of calls that are open, and the limit of
--- these.
+-- The arrangements counted before and after.
 pub record Spending : Type 0 where
   pub before : ℕ
   pub after : ℕ
-  pub depth : ℕ
-  pub limit : ℕ
 
--- what was spent between two states of the meter, where so many calls are open
-abbrev pub spending : Meter → Meter → ℕ → Spending
-spending old new depth =
-    record { before = old.spent; after = new.spent; depth = depth; limit = old.limits.depth }
+-- what was spent between two states of the meter
+abbrev pub spending : Meter → Meter → Spending
+spending old new = record { before = old.spent; after = new.spent }
 
--- The answer is that of one run of the call for n with the canonical issuer c and the issuer i, the
--- count has risen by exactly its arrangements, and its depth keeps the limit. The call itself is
--- counted in `depth`.
+-- The answer is that of one run of the call for n with the canonical issuer c and the issuer i, and
+-- the count has risen by exactly its arrangements.
 pub record AnswersCall {B : Type 0} (v : Nodes B) (c : List B) (n : B) (i : List B) (a : Answer B)
     (s : Spending) : Type 0 where
   pub outcome : Outcome B
@@ -37,7 +32,6 @@ pub record AnswersCall {B : Type 0} (v : Nodes B) (c : List B) (n : B) (i : List
   pub issuer_is : a.issuer ≡ outcome.issuer
   pub tie_is : a.tie ≡ outcome.tie
   pub spent : s.after ≡ s.before + outcome.work
-  pub within : s.depth + outcome.depth ≤ s.limit + 1
 
 -- The work of a run of the call, with what was spent before, is over the limit.
 pub record CallOver {B : Type 0} (v : Nodes B) (c : List B) (n : B) (i : List B) (old limit : ℕ)
@@ -45,10 +39,3 @@ pub record CallOver {B : Type 0} (v : Nodes B) (c : List B) (n : B) (i : List B)
   pub outcome : Outcome B
   pub call : IsNDegree v c n i outcome
   pub over : limit < old + outcome.work
-
--- The depth of a run of the call, with that of the calls around it, is over the limit.
-pub record CallDeep {B : Type 0} (v : Nodes B) (c : List B) (n : B) (i : List B) (depth limit : ℕ)
-    : Type 0 where
-  pub outcome : Outcome B
-  pub call : IsNDegree v c n i outcome
-  pub over : limit + 1 < depth + outcome.depth

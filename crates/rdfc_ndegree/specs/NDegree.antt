@@ -1,7 +1,7 @@
 -- N-degree hashing as a relation: every arrangement of a group is evaluated, and any with the least
--- path may be chosen. RDF Canonicalization, 4.8, Hash N-Degree Quads. Ties, work and depth are this
+-- path may be chosen. RDF Canonicalization, 4.8, Hash N-Degree Quads. Ties and work are this
 -- project's.
-use Rattle.std.specs.Prelude.{◌≡◌, ◌+◌, ℕ, zero, suc, max, List, [], ◌∷◌, ◌++◌, Bool, true, false, ◌||◌, ◌==◌, nat_lt, All, Contains, count_by, bytes_eq, codes, if◌then◌else◌, IsPermutation}
+use Rattle.std.specs.Prelude.{◌≡◌, ◌+◌, ℕ, zero, suc, List, [], ◌∷◌, ◌++◌, Bool, true, false, ◌||◌, ◌==◌, nat_lt, All, Contains, count_by, bytes_eq, codes, if◌then◌else◌, IsPermutation}
 use Rattle.std.specs.List.{AllZip, list_any, starts_with}
 use Rattle.base_types.specs.Order.{is_upto}
 use Rattle.base_types.specs.Sets.{AllDiffer, HasExactly}
@@ -9,14 +9,13 @@ use Rattle.rdfc_ndegree.specs.Nodes.{Nodes}
 use Rattle.rdfc_ndegree.specs.Issuers.{has, canonical_id, temporary_id, issue}
 use Rattle.rdfc_ndegree.specs.Groups.{Group, related_groups}
 
--- What an n-degree call gives: the hash and the issuer; and whether it met a tie that counts, how
--- many arrangements were evaluated, and the most calls that were open at once.
+-- What an n-degree call gives: the hash and the issuer; and whether it met a tie that counts, and
+-- how many arrangements were evaluated.
 pub record Outcome (B : Type 0) : Type 0 where
   pub hash : List ℕ
   pub issuer : List B
   pub tie : Bool
   pub work : ℕ
-  pub depth : ℕ
 
 -- What one arrangement gives. `ties` has, for each nested call that met a tie, the path as it stood
 -- before that call's part.
@@ -25,7 +24,6 @@ pub record Trail (B : Type 0) : Type 0 where
   pub issuer : List B
   pub ties : List (List ℕ)
   pub work : ℕ
-  pub depth : ℕ
 
 -- What the choice among the arrangements of one group gives.
 pub record Choice (B : Type 0) : Type 0 where
@@ -33,7 +31,6 @@ pub record Choice (B : Type 0) : Type 0 where
   pub issuer : List B
   pub tie : Bool
   pub work : ℕ
-  pub depth : ℕ
 
 -- which outcomes a call may give for a node and an issuer
 abbrev pub Calls : Type 0 → Type 1
@@ -76,7 +73,7 @@ path_part v i m hash =
 
 -- the trail where no member is left
 abbrev pub trail_end : {B : Type 0} → List B → List ℕ → Trail B
-trail_end i path = record { path = path; issuer = i; ties = []; work = 0; depth = 0 }
+trail_end i path = record { path = path; issuer = i; ties = []; work = 0 }
 
 -- a trail with a nested call in front, which was made when the path was this
 abbrev pub trail_more : {B : Type 0} → List ℕ → Outcome B → Trail B → Trail B
@@ -85,7 +82,6 @@ trail_more path o t = record {
   issuer = t.issuer;
   ties = if o.tie then path ∷ t.ties else t.ties;
   work = o.work + t.work;
-  depth = max o.depth t.depth;
 }
 
 -- one nested call with what may follow it
@@ -133,17 +129,12 @@ abbrev pub total_work : {B : Type 0} → List (Trail B) → ℕ
 total_work [] = 0
 total_work (t ∷ ts) = 1 + t.work + total_work ts
 
-abbrev pub greatest_depth : {B : Type 0} → List (Trail B) → ℕ
-greatest_depth [] = 0
-greatest_depth (t ∷ ts) = max t.depth (greatest_depth ts)
-
 abbrev pub choice_of : {B : Type 0} → Trail B → List (Trail B) → Choice B
 choice_of best ts = record {
   path = best.path;
   issuer = best.issuer;
   tie = meets_tie best.path ts;
   work = total_work ts;
-  depth = greatest_depth ts;
 }
 
 -- Every arrangement of the members is evaluated, and one with the least path is chosen.
@@ -164,8 +155,7 @@ pub record IsChoice {B : Type 0} (evaluates : List B → Trail B → Type 0) (me
 -- the outcome where no group is left: the digest of the data. -- RDF Canonicalization, 4.8.3, step
 -- 6
 abbrev pub outcome_end : {B : Type 0} → Nodes B → List ℕ → List B → Outcome B
-outcome_end v text i =
-    record { hash = v.digest text; issuer = i; tie = false; work = 0; depth = 0 }
+outcome_end v text i = record { hash = v.digest text; issuer = i; tie = false; work = 0 }
 
 -- an outcome with a group's choice in front
 abbrev pub outcome_more : {B : Type 0} → Choice B → Outcome B → Outcome B
@@ -174,7 +164,6 @@ outcome_more x o = record {
   issuer = o.issuer;
   tie = x.tie || o.tie;
   work = x.work + o.work;
-  depth = max x.depth o.depth;
 }
 
 -- one group's choice with what may follow it
@@ -196,16 +185,10 @@ InGroups v calls c text i (g ∷ gs) o =
     Chooses (IsChoice (Evaluates v calls c i) g.members)
     (λ x rest. InGroups v calls c (text ++ (g.hash ++ x.path)) x.issuer gs rest) o
 
-abbrev pub one_deeper : {B : Type 0} → Outcome B → Outcome B
-one_deeper o =
-    record { hash = o.hash; issuer = o.issuer; tie = o.tie; work = o.work; depth = 1 + o.depth }
-
 -- a call whose nested calls are among `calls`
 pub record IsCall {B : Type 0} (v : Nodes B) (c : List B) (calls : Calls B) (n : B) (i : List B)
     (o : Outcome B) : Type 0 where
-  pub inner : Outcome B
-  pub groups : InGroups v calls c [] i (related_groups v c i n) inner
-  pub is : o ≡ one_deeper inner
+  pub groups : InGroups v calls c [] i (related_groups v c i n) o
 
 -- an n-degree call with at most k calls open at once, itself counted
 abbrev pub IsNDegreeWithin : {B : Type 0} → Nodes B → List B → ℕ → Calls B

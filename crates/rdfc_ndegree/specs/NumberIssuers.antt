@@ -23,7 +23,11 @@ abbrev pub place_at : Option (Option ℕ) → Option ℕ
 place_at None = None
 place_at (Some place) = place
 
+-- beside each number stands its first place in the order
+abbrev pub HasPlaces : List (Option ℕ) → List ℕ → Type 0
+HasPlaces places order = (n : ℕ) → place_at (slice_get places n) ≡ place_in order n
+
 -- The order names no number twice, and beside each number stands its place in the order.
 pub record ArePlaces (places : List (Option ℕ)) (order : List ℕ) : Type 0 where
   pub differ : AllDiffer order
-  pub each : (n : ℕ) → place_at (slice_get places n) ≡ place_in order n
+  pub each : HasPlaces places order

@@ -1,6 +1,5 @@
--- Runs of the canonicalization algorithm, ties, work and depth. RDF Canonicalization, 4.4.3, steps
--- 3 to 5.
-use Rattle.std.specs.Prelude.{◌≡◌, ◌<◌, ◌≤◌, ◌+◌, ℕ, max, List, [], ◌∷◌, ◌++◌, Bool, true, false, not, ◌||◌, filter, map, All, bytes_eq, IsPermutation}
+-- Runs of the canonicalization algorithm, ties and work. RDF Canonicalization, 4.4.3, steps 3 to 5.
+use Rattle.std.specs.Prelude.{◌≡◌, ◌<◌, ◌≤◌, ◌+◌, ℕ, List, [], ◌∷◌, ◌++◌, Bool, true, false, not, ◌||◌, filter, map, All, bytes_eq, IsPermutation}
 use Rattle.std.specs.List.{AllZip, list_any}
 use Rattle.base_types.specs.Order.{is_upto}
 use Rattle.rdfc_ndegree.specs.Nodes.{Nodes}
@@ -57,27 +56,21 @@ abbrev pub work_of : {B : Type 0} → List (Outcome B) → ℕ
 work_of [] = 0
 work_of (o ∷ os) = o.work + work_of os
 
-abbrev pub depth_of : {B : Type 0} → List (Outcome B) → ℕ
-depth_of [] = 0
-depth_of (o ∷ os) = max o.depth (depth_of os)
-
 -- What a run gives: the canonical issuer, in which a node's number is its place; whether a tie was
--- met; the arrangements evaluated; and the most n-degree calls that were open at once.
+-- met; and how many arrangements were evaluated.
 pub record RunOutcome (B : Type 0) : Type 0 where
   pub issuer : List B
   pub tie : Bool
   pub work : ℕ
-  pub depth : ℕ
 
 abbrev pub run_end : {B : Type 0} → List B → RunOutcome B
-run_end c = record { issuer = c; tie = false; work = 0; depth = 0 }
+run_end c = record { issuer = c; tie = false; work = 0 }
 
 abbrev pub run_more : {B : Type 0} → List (Outcome B) → RunOutcome B → RunOutcome B
 run_more os r = record {
   issuer = r.issuer;
   tie = results_tie os || r.tie;
   work = work_of os + r.work;
-  depth = max (depth_of os) r.depth;
 }
 
 -- One group of one first-degree hash: each member without canonical identifier is hashed with a new
@@ -109,20 +102,15 @@ pub record MeetsTie {B : Type 0} (v : Nodes B) : Type 0 where
   pub is_run : IsRun v run
   pub tie : run.tie ≡ true
 
--- some run evaluates more arrangements than n, or has more calls open at once
+-- some run evaluates more arrangements than n
 pub record WorkOver {B : Type 0} (v : Nodes B) (n : ℕ) : Type 0 where
   pub run : RunOutcome B
   pub is_run : IsRun v run
   pub over : n < run.work
 
-pub record DepthOver {B : Type 0} (v : Nodes B) (n : ℕ) : Type 0 where
-  pub run : RunOutcome B
-  pub is_run : IsRun v run
-  pub over : n < run.depth
-
--- no run is over a limit
-abbrev pub WithinLimits : {B : Type 0} → Nodes B → ℕ → ℕ → Type 0
-WithinLimits v work depth = (r : RunOutcome _) → IsRun v r → (r.work ≤ work) × (r.depth ≤ depth)
+-- no run evaluates more arrangements than this
+abbrev pub IsWithinWork : {B : Type 0} → Nodes B → ℕ → Type 0
+IsWithinWork v work = (r : RunOutcome _) → IsRun v r → r.work ≤ work
 
 -- The canonical issuer that every run without a tie gives; where one run meets no tie, none does.
 pub record IsCanonicalIssuer {B : Type 0} (v : Nodes B) (c : List B) : Type 0 where

@@ -1,190 +1,212 @@
-//! Calls for blank nodes by their texts.
+//! Calls for blank nodes by their numbers in a store.
 use crate::tests::{
-    ALONE, First, INNER, MIDDLE, O, OUTER, P, PAIR, Q, Row, TWIN, TWINS, hashes, meter, quads,
+    ALONE, First, INNER, MIDDLE, OUTER, PAIR, TWIN, TWINS, hashes, meter, statements, text_of,
 };
-use crate::{CanonFault, Issuer, Memory, Meter, Path, Sequence, Text, n_degree};
+use crate::{CanonFault, Issuer, Memory, Meter, Path, Sequence, n_degree};
+use bumpalo::Bump;
+use digest_mac::Hash;
 use std::alloc::Global;
+use term_store::{TermId, Terms};
 
-/// A call with what it gives, and how many arrangements and open calls it takes.
+/// A call with what it gives by either hash, and how many arrangements it takes.
 #[derive(Clone, Copy)]
 struct Case {
-    rows: &'static [Row],
+    statements: &'static str,
     firsts: &'static [First],
     canonical: &'static [&'static str],
     node: &'static str,
     begun: &'static [&'static str],
-    hash: &'static str,
+    sha256: &'static str,
+    sha384: &'static str,
     issuer: &'static [&'static str],
     tie: bool,
     work: u64,
-    depth: u64,
 }
 
-const NESTED: [Row; 3] = [
-    ("_:e3", P, "_:e2"),
-    ("_:e2", Q, "_:e0"),
-    ("_:e2", Q, "_:e1"),
-];
+const NESTED: &str =
+    "_:e3 <http://example.com/#p> _:e2 .\n_:e2 <http://example.com/#q> _:e0 .\n_:e2 <http://example.com/#q> _:e1 .\n";
 
 const NESTED_FIRSTS: [First; 4] = [
-    ("_:e0", INNER),
-    ("_:e1", INNER),
-    ("_:e2", MIDDLE),
-    ("_:e3", OUTER),
+    ("_:ne0", INNER),
+    ("_:ne1", INNER),
+    ("_:ne2", MIDDLE),
+    ("_:ne3", OUTER),
 ];
 
-const NOTHING: &str = "e3b0c44298fc1c149afbf4c8996fb92427ae41e4649b934ca495991b7852b855";
-
-// The hashes, the counts of arrangements and the depths were made by other programs, which follow
-// RDF Dataset Canonicalization, 4.8.3, step by step. In the last two cases the issuers hold names
-// that stand in no statement, and the node of the last is one.
+// The hashes and the counts of arrangements were made by other programs, which follow RDF Dataset
+// Canonicalization, 4.8.3, step by step. In the last two cases the issuers hold nodes that stand in
+// no statement, and the node of the last is one.
 const CASES: [Case; 6] = [
     Case {
-        rows: &[("_:e0", P, "_:e1"), ("_:e1", P, "_:e0")],
-        firsts: &[("_:e0", PAIR), ("_:e1", PAIR)],
+        statements: "_:e0 <http://example.com/#p> _:e1 .\n_:e1 <http://example.com/#p> _:e0 .\n",
+        firsts: &[("_:ne0", PAIR), ("_:ne1", PAIR)],
         canonical: &[],
-        node: "_:e0",
-        begun: &["_:e0"],
-        hash: "7e1cc424a09c2cec63c842f82750863acf36ddfc548c01a2df238976e6b8531c",
-        issuer: &["_:e0", "_:e1"],
+        node: "_:ne0",
+        begun: &["_:ne0"],
+        sha256: "7e1cc424a09c2cec63c842f82750863acf36ddfc548c01a2df238976e6b8531c",
+        sha384: "75a954c8b70f4f56a7502e5e590a496d8ff64dd070bd68a2a688e7f9f627d9ecf8b4ccb429ad5ddf083ea594988219ec",
+        issuer: &["_:ne0", "_:ne1"],
         tie: false,
         work: 4,
-        depth: 2,
     },
     Case {
-        rows: &[("_:e2", P, "_:e0"), ("_:e2", P, "_:e1")],
-        firsts: &[("_:e0", TWIN), ("_:e1", TWIN), ("_:e2", TWINS)],
+        statements: "_:e2 <http://example.com/#p> _:e0 .\n_:e2 <http://example.com/#p> _:e1 .\n",
+        firsts: &[("_:ne0", TWIN), ("_:ne1", TWIN), ("_:ne2", TWINS)],
         canonical: &[],
-        node: "_:e2",
-        begun: &["_:e2"],
-        hash: "7c57be766fe8e9c6a99fc62f4652209ee6b5046c757803d08d344bf5da68db6c",
-        issuer: &["_:e2", "_:e0", "_:e1"],
+        node: "_:ne2",
+        begun: &["_:ne2"],
+        sha256: "7c57be766fe8e9c6a99fc62f4652209ee6b5046c757803d08d344bf5da68db6c",
+        sha384: "6af0a7de5625a1a5e5e6c74ec4ce263eefe15e25d73388b0eaf9c14fcc866efe106fb894eb9a88863c13013b6fd2f0b5",
+        issuer: &["_:ne2", "_:ne0", "_:ne1"],
         tie: true,
         work: 6,
-        depth: 2,
     },
     Case {
-        rows: &NESTED,
+        statements: NESTED,
         firsts: &NESTED_FIRSTS,
         canonical: &[],
-        node: "_:e3",
-        begun: &["_:e3"],
-        hash: "4d8fc9cc3e10a5ba32a61d646518b6becd74a2f360ac91b699ae6912f885263c",
-        issuer: &["_:e3", "_:e2", "_:e0", "_:e1"],
+        node: "_:ne3",
+        begun: &["_:ne3"],
+        sha256: "4d8fc9cc3e10a5ba32a61d646518b6becd74a2f360ac91b699ae6912f885263c",
+        sha384: "126baf1c164c9f0fb253a2684b3c392d7eb6c9e52c9cb12939cf7cbe08ae8293c2351ba0895daefffcebb3989eff8d64",
+        issuer: &["_:ne3", "_:ne2", "_:ne0", "_:ne1"],
         tie: true,
         work: 8,
-        depth: 3,
     },
     Case {
-        rows: &[("_:e0", P, O)],
-        firsts: &[("_:e0", ALONE)],
+        statements: "_:e0 <http://example.com/#p> <http://example.com/#o> .\n",
+        firsts: &[("_:ne0", ALONE)],
         canonical: &[],
-        node: "_:e0",
-        begun: &["_:e0"],
-        hash: NOTHING,
-        issuer: &["_:e0"],
+        node: "_:ne0",
+        begun: &["_:ne0"],
+        sha256: "e3b0c44298fc1c149afbf4c8996fb92427ae41e4649b934ca495991b7852b855",
+        sha384: "38b060a751ac96384cd9327eb1b1e36a21fdb71114be07434c0cc7bf63f6e1da274edebfe76f65fbd51ad2f14898b95b",
+        issuer: &["_:ne0"],
         tie: false,
         work: 0,
-        depth: 1,
     },
     Case {
-        rows: &NESTED,
+        statements: NESTED,
         firsts: &NESTED_FIRSTS,
-        canonical: &["_:e8", "_:e0"],
-        node: "_:e3",
-        begun: &["_:e9", "_:e3"],
-        hash: "b046868ea83bfb1e4460c11e221cf71aefe542e495cbc25bc472f48bb55586d3",
-        issuer: &["_:e9", "_:e3", "_:e2", "_:e1"],
+        canonical: &["_:ne8", "_:ne0"],
+        node: "_:ne3",
+        begun: &["_:ne9", "_:ne3"],
+        sha256: "b046868ea83bfb1e4460c11e221cf71aefe542e495cbc25bc472f48bb55586d3",
+        sha384: "e0aaf6810b30714ea679acdc55f3fc7c14b9597087a33f091368286a0b40a799862d6952ef7f77d74cb9135ce303adf7",
+        issuer: &["_:ne9", "_:ne3", "_:ne2", "_:ne1"],
         tie: false,
         work: 5,
-        depth: 3,
     },
     Case {
-        rows: &NESTED,
+        statements: NESTED,
         firsts: &NESTED_FIRSTS,
-        canonical: &["_:e7"],
-        node: "_:e9",
-        begun: &["_:e8"],
-        hash: NOTHING,
-        issuer: &["_:e8"],
+        canonical: &["_:ne7"],
+        node: "_:ne9",
+        begun: &["_:ne8"],
+        sha256: "e3b0c44298fc1c149afbf4c8996fb92427ae41e4649b934ca495991b7852b855",
+        sha384: "38b060a751ac96384cd9327eb1b1e36a21fdb71114be07434c0cc7bf63f6e1da274edebfe76f65fbd51ad2f14898b95b",
+        issuer: &["_:ne8"],
         tie: false,
         work: 0,
-        depth: 1,
     },
 ];
 
-fn issuer(alloc: Global, names: &[&str]) -> Result<Issuer, Memory> {
+fn issuer(alloc: Global, terms: &mut Terms<'_>, names: &[&str]) -> Result<Issuer, Memory> {
     let mut order = Sequence::new(alloc);
     for name in names {
-        order.push(Text::from_str(alloc, name)?)?;
+        order.push(terms.intern(name)?)?;
     }
     Ok(Issuer { order })
 }
 
-fn call(alloc: Global, case: &Case, meter: &mut Meter) -> Result<Path, CanonFault> {
-    let quads = quads(alloc, case.rows)?;
-    let firsts = hashes(alloc, case.firsts)?;
-    let canonical = issuer(alloc, case.canonical)?;
-    let node = Text::from_str(alloc, case.node)?;
-    let begun = issuer(alloc, case.begun)?;
+fn call(
+    alloc: Global,
+    terms: &mut Terms<'_>,
+    case: &Case,
+    hash: Hash,
+    meter: &mut Meter,
+) -> Result<Path, CanonFault> {
+    let firsts = hashes(alloc, terms, case.firsts, hash)?;
+    let canonical = issuer(alloc, terms, case.canonical)?;
+    let node = terms.intern(case.node)?;
+    let begun = issuer(alloc, terms, case.begun)?;
+    let quads = statements(alloc, terms, case.statements)?;
     n_degree(
         alloc,
+        terms,
         &quads,
         firsts.as_slice(),
         &canonical,
-        &node,
+        node,
         begun,
-        1,
+        hash,
         meter,
     )
 }
 
-fn are_names(order: &[Text], names: &[&str]) -> bool {
-    for (text, name) in order.iter().zip(names) {
-        if text.as_str() != *name {
+fn are_names(terms: &Terms<'_>, order: &[TermId], names: &[&str]) -> bool {
+    for (id, name) in order.iter().zip(names) {
+        if text_of(terms, *id) != *name {
             return false;
         }
     }
     order.len() == names.len()
 }
 
-fn is_path(path: &Path, case: &Case) -> bool {
-    path.hash.as_slice() == case.hash.as_bytes()
-        && are_names(path.issuer.order.as_slice(), case.issuer)
+fn is_path(terms: &Terms<'_>, path: &Path, case: &Case, hash: Hash) -> bool {
+    let wanted = match hash {
+        Hash::Sha256 => case.sha256,
+        Hash::Sha384 => case.sha384,
+    };
+    path.hash.as_str() == wanted
+        && are_names(terms, path.issuer.order.as_slice(), case.issuer)
         && path.tie == case.tie
 }
 
-/// What the call is refused for within these limits, if it is.
-fn refusal(alloc: Global, case: &Case, work: u64, depth: u64) -> Option<CanonFault> {
-    match call(alloc, case, &mut meter(0, work, depth)) {
-        Ok(_) => None,
-        Err(fault) => Some(fault),
+/// Whether the call gives this within exactly its limit.
+fn is_given(alloc: Global, case: &Case, hash: Hash) -> Result<bool, CanonFault> {
+    let arena = Bump::new(alloc);
+    let mut terms = Terms::new(alloc, &arena)?;
+    let mut exact = meter(0, case.work);
+    let path = call(alloc, &mut terms, case, hash, &mut exact)?;
+    Ok(is_path(&terms, &path, case, hash) && exact.spent == case.work)
+}
+
+/// What the call is refused for within this limit, if it is.
+fn refusal(
+    alloc: Global,
+    case: &Case,
+    hash: Hash,
+    work: u64,
+) -> Result<Option<CanonFault>, CanonFault> {
+    let arena = Bump::new(alloc);
+    let mut terms = Terms::new(alloc, &arena)?;
+    match call(alloc, &mut terms, case, hash, &mut meter(0, work)) {
+        Ok(_) => Ok(None),
+        Err(fault) => Ok(Some(fault)),
     }
 }
 
-// Each call gives this within exactly its limits, and is refused with one less of either.
 #[test]
-fn nodes_by_their_texts(rt: HostRuntime) -> Result<(), CanonFault> {
+fn nodes_by_their_numbers(rt: HostRuntime) -> Result<(), CanonFault> {
     for case in &CASES {
-        let mut exact = meter(0, case.work, case.depth);
-        let path = call(rt.alloc(), case, &mut exact)?;
-        assert!(rt; is_path(&path, case), "{}", case.hash);
-        assert_eq!(rt; exact.spent, case.work, "{}", case.hash);
-        if let Some(work) = case.work.checked_sub(1) {
-            let refused = refusal(rt.alloc(), case, work, case.depth);
-            assert!(rt;
-                refused == Some(CanonFault::TooMuchWork(work)),
-                "{}",
-                case.hash
-            );
+        for hash in [Hash::Sha256, Hash::Sha384] {
+            assert!(rt; is_given(rt.alloc(), case, hash)?, "{}", case.sha256);
         }
-        if let Some(depth) = case.depth.checked_sub(1) {
-            let refused = refusal(rt.alloc(), case, case.work, depth);
-            assert!(rt;
-                refused == Some(CanonFault::TooDeep(depth)),
-                "{}",
-                case.hash
-            );
+    }
+    Ok(())
+}
+
+// One arrangement less than it takes.
+#[test]
+fn limit_of_a_call(rt: HostRuntime) -> Result<(), CanonFault> {
+    for case in &CASES {
+        if let Some(work) = case.work.checked_sub(1) {
+            let full = Some(CanonFault::TooMuchWork(work));
+            let short = refusal(rt.alloc(), case, Hash::Sha256, work)?;
+            assert!(rt; short == full, "{}", case.sha256);
+            let long = refusal(rt.alloc(), case, Hash::Sha384, work)?;
+            assert!(rt; long == full, "{}", case.sha384);
         }
     }
     Ok(())

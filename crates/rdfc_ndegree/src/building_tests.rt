@@ -1,91 +1,77 @@
 //! A table with each shape of statement.
-use crate::{NodeRow, NodeTable, Position, node_table};
-use base_types::{Memory, Text};
-use nquads::{BlankHash, TextQuad, TextQuads};
-use std::alloc::Global;
+use crate::tests::{First, hashes, statements};
+use crate::{CanonFault, NodeTable, Position, node_table};
+use bumpalo::Bump;
+use digest_mac::{Hash, digest_hex};
+use term_store::Terms;
 
 const P: &str = "<http://example.org/p>";
 
-/// The SHA-256 digest of nothing, as other implementations print it.
-const NOTHING: &str = "e3b0c44298fc1c149afbf4c8996fb92427ae41e4649b934ca495991b7852b855";
+const STATEMENTS: &str =
+    "_:x <http://example.org/p> _:y .\n_:x <http://example.org/p> _:x _:y .\n<http://example.org/s> <http://example.org/p> \"_:nz\" _:x .\n";
 
-/// Subject, object, and the graph or the empty text for the default graph.
-type Row = (&'static str, &'static str, &'static str);
+/// The nodes, and what their first-degree hashes are taken of here.
+const NODES: [First; 2] = [("_:nx", "x"), ("_:ny", "y")];
 
-fn quads(alloc: Global, rows: &[Row]) -> Result<TextQuads, Memory> {
-    let mut quads = Vec::new(alloc);
-    for (subject, object, graph) in rows {
-        let graph = if graph.is_empty() {
-            None
-        } else {
-            Some(Text::from_str(alloc, graph)?)
+fn is_row(
+    table: &NodeTable<'_, '_>,
+    node: usize,
+    text: &str,
+    related: &[(Position, usize)],
+) -> bool {
+    for place in 0..related.len() {
+        let same = match table.related(node, place) {
+            Some(got) => {
+                got.position == related[place].0
+                    && got.node == related[place].1
+                    && got.predicate == P
+            }
+            None => false,
         };
-        quads.push(TextQuad {
-            subject: Text::from_str(alloc, subject)?,
-            predicate: Text::from_str(alloc, P)?,
-            object: Text::from_str(alloc, object)?,
-            graph,
-        })?;
-    }
-    Ok(TextQuads::from_vec(quads))
-}
-
-fn table(alloc: Global) -> Result<NodeTable, Memory> {
-    let quads = quads(
-        alloc,
-        &[
-            ("_:nx", "_:ny", ""),
-            ("_:nx", "_:nx", "_:ny"),
-            ("<http://example.org/s>", "\"_:nz\"", "_:nx"),
-        ],
-    )?;
-    let mut firsts = Vec::new(alloc);
-    for (blank, digit) in [("_:nx", b'1'), ("_:ny", b'2')] {
-        firsts.push(BlankHash {
-            blank: Text::from_str(alloc, blank)?,
-            hash: [digit; 64],
-        })?;
-    }
-    let mut others = Vec::new(alloc);
-    for other in ["_:ny", "_:nq", "_:nq"] {
-        others.push(Text::from_str(alloc, other)?)?;
-    }
-    node_table(alloc, &quads, firsts.as_slice(), others.as_slice())
-}
-
-fn is_row(row: Option<&NodeRow>, blank: &str, first: &[u8], related: &[(Position, usize)]) -> bool {
-    let Some(row) = row else {
-        return false;
-    };
-    for (got, want) in row.related.as_slice().iter().zip(related) {
-        if got.position != want.0 || got.node != want.1 || got.predicate.as_str() != P {
+        if !same {
             return false;
         }
     }
-    row.blank.as_str() == blank
-        && row.first.as_slice() == first
-        && row.related.len() == related.len()
+    table.first(node) == Some(digest_hex(Hash::Sha384, text.as_bytes()))
+        && table.related_len(node) == related.len()
 }
 
-// The statements are sorted when the dataset is made, so the one about `<http://example.org/s>` is
-// the first, and `_:nx _:nx _:ny` comes before `_:nx _:ny`.
+// The statements are sorted by the numbers of their terms when the dataset is made. Here `_:nx`,
+// `_:ny` and the predicate are kept in this order, so that `_:nx _:nx _:ny` comes before `_:nx _:ny`.
 #[test]
-fn rows_have_their_related_nodes(rt: HostRuntime) -> Result<(), Memory> {
-    let table = table(rt.alloc())?;
+fn rows_have_their_related_nodes(rt: HostRuntime) -> Result<(), CanonFault> {
+    let alloc = rt.alloc();
+    let arena = Bump::new(alloc);
+    let mut terms = Terms::new(alloc, &arena)?;
+    let firsts = hashes(alloc, &mut terms, &NODES, Hash::Sha384)?;
+    let others = [
+        terms.intern("_:ny")?,
+        terms.intern("_:nq")?,
+        terms.intern("_:nq")?,
+    ];
+    let quads = statements(alloc, &mut terms, STATEMENTS)?;
+    let table = node_table(
+        alloc,
+        &terms,
+        &quads,
+        firsts.as_slice(),
+        &others,
+        Hash::Sha384,
+    )?;
     assert_eq!(rt; table.len(), 3);
     assert!(rt;
         is_row(
-            table.row(0),
-            "_:nx",
-            &[b'1'; 64],
+            &table,
+            0,
+            "x",
             &[(Position::Graph, 1), (Position::Object, 1)]
         )
     );
     assert!(rt;
         is_row(
-            table.row(1),
-            "_:ny",
-            &[b'2'; 64],
+            &table,
+            1,
+            "y",
             &[
                 (Position::Subject, 0),
                 (Position::Object, 0),
@@ -93,15 +79,8 @@ fn rows_have_their_related_nodes(rt: HostRuntime) -> Result<(), Memory> {
             ]
         )
     );
-    assert!(rt; is_row(table.row(2), "_:nq", NOTHING.as_bytes(), &[]));
-    assert!(rt; table.row(3).is_none());
-    for (blank, number) in [
-        ("_:nx", Some(0)),
-        ("_:ny", Some(1)),
-        ("_:nq", Some(2)),
-        ("\"_:nz\"", None),
-    ] {
-        assert_eq!(rt; table.number_of(blank), number);
-    }
+    assert!(rt; is_row(&table, 2, "", &[]));
+    assert!(rt; table.first(3).is_none());
+    assert!(rt; table.related(3, 0).is_none());
     Ok(())
 }

@@ -1,37 +1,29 @@
 //! Canonical and temporary identifiers (RDF Dataset Canonicalization, 4.5).
-ghost use Rattle.std.specs.Prelude.{◌≡◌, ◌∷◌, ◌++◌, [], codes, decimal, OnOk};
-ghost use Rattle.rdfc_ndegree.specs.NumberIssuers.{place_in};
+ghost use Rattle.std.specs.Prelude.{◌≡◌, ◌++◌, codes, decimal, OnOk};
 
 use base_types::Memory;
-use std::alloc::Global;
-
-/// The place of a number in an issuer, from 0, or `None` where it is not named.
-#[tactic(auto, using(crate::proofs::Tables::places))]
-pub fn place_of(issuer: &[usize], node: usize) -> Option<usize>
-    ensures { result ≡ place_in issuer.now node }
-{
-    for place in 0..issuer.len() {
-        if issuer[place] == node {
-            return Some(place);
-        }
-    }
-    None
-}
+use itoa::Buffer;
 
 /// Puts `_:c14n` and a number in the canonical issuer at the end.
-pub fn push_canonical(alloc: Global, text: &mut Vec<u8>, number: usize) -> Result<(), Memory>
+pub(crate) fn push_canonical(text: &mut Vec<u8>, number: usize) -> Result<(), Memory>
     ensures { OnOk result (text.new.items ≡ text.old.items ++ (codes "_:c14n" ++ decimal number)) }
 {
-    let identifier = format!(in alloc; "_:c14n{number}")?;
-    text.extend_from_slice(identifier.as_bytes())?;
-    Ok(())
+    text.extend_from_slice(b"_:c14n")?;
+    push_decimal(text, number)
 }
 
 /// Puts `_:b` and a number in an issuer of one n-degree call at the end.
-pub fn push_temporary(alloc: Global, text: &mut Vec<u8>, number: usize) -> Result<(), Memory>
+pub(crate) fn push_temporary(text: &mut Vec<u8>, number: usize) -> Result<(), Memory>
     ensures { OnOk result (text.new.items ≡ text.old.items ++ (codes "_:b" ++ decimal number)) }
 {
-    let identifier = format!(in alloc; "_:b{number}")?;
-    text.extend_from_slice(identifier.as_bytes())?;
+    text.extend_from_slice(b"_:b")?;
+    push_decimal(text, number)
+}
+
+fn push_decimal(text: &mut Vec<u8>, number: usize) -> Result<(), Memory>
+    ensures { OnOk result (text.new.items ≡ text.old.items ++ decimal number) }
+{
+    let mut digits = Buffer::new();
+    text.extend_from_slice(digits.format(number).as_bytes())?;
     Ok(())
 }

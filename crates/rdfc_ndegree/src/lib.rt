@@ -3,8 +3,8 @@
 //!
 //! `specs/` defines n-degree hashing and runs as relations over any kind of node: every arrangement
 //! is evaluated, and any with the least path may be chosen. The code works over a table in which
-//! blank nodes are numbers (`NodeTable`), and a law carries each of its runs to the blank nodes of
-//! the dataset.
+//! blank nodes are numbers (`NodeTable`), beside the store that keeps their texts, and a law carries
+//! each of its runs to the blank nodes of the dataset. The hash is chosen by the caller.
 #![tactic(auto)]
 
 mod arrangements;
@@ -26,16 +26,17 @@ mod hash_groups;
 mod identifiers;
 mod limits;
 mod moves;
-mod names;
 mod nested_calls;
+mod numbers;
 mod path;
 mod related;
 mod table;
+mod temporary;
 #[cfg(test)]
 mod tests;
 mod walk;
 
-pub use base_types::{Memory, Sequence, Text};
+pub use base_types::{Memory, Sequence};
 pub use blank_nodes::n_degree;
 pub use building::node_table;
 pub use canonical::Canonical;
@@ -44,4 +45,4 @@ pub use firsts::first_groups;
 pub use limits::{CanonFault, Issuer, Limits, Meter, Path};
 pub use path::NodePath;
 pub use related::NodeGroup;
-pub use table::{NodeRow, NodeTable, Position, Related};
+pub use table::{NodeTable, Position, RelatedNode};

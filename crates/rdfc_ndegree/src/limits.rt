@@ -1,18 +1,19 @@
-//! Limits, what was spent, faults, issuers by their texts (RDF Dataset Canonicalization, 4.3).
+//! Limits, what was spent, faults, issuers (RDF Dataset Canonicalization, 4.3).
 ghost use Rattle.std.specs.Prelude.{◌≡◌};
 
-use base_types::{Memory, Sequence, Text};
+use base_types::{Memory, Sequence};
+use digest_mac::HexDigest;
 use std::alloc::AllocFailed;
 use std::fmt;
+use term_store::TermId;
 
-/// How many arrangements may be evaluated, and how many n-degree calls may be open at once.
+/// How many arrangements may be evaluated.
 #[derive(Clone, Copy, Debug, PartialEq, Eq)]
 pub struct Limits {
     pub work: u64,
-    pub depth: u64,
 }
 
-/// The arrangements evaluated so far, and the limits.
+/// The arrangements evaluated so far, and the limit.
 #[derive(Clone, Copy, Debug, PartialEq, Eq)]
 pub struct Meter {
     pub spent: u64,
@@ -24,8 +25,6 @@ pub struct Meter {
 pub enum CanonFault {
     /// More arrangements than this limit would be evaluated.
     TooMuchWork(u64),
-    /// More n-degree calls than this limit would be open at once.
-    TooDeep(u64),
     /// Out of memory.
     Memory,
 }
@@ -37,7 +36,6 @@ impl fmt::Display for CanonFault {
                 f,
                 "more than {most} arrangements would be evaluated"
             ),
-            CanonFault::TooDeep(most) => write!(f, "more than {most} calls would be open at once"),
             CanonFault::Memory => f.write_str("out of memory"),
         }
     }
@@ -64,16 +62,16 @@ impl<T: Drop> From<AllocFailed<T>> for CanonFault {
 }
 
 /// An identifier issuer (RDF Dataset Canonicalization, 4.3): the blank nodes that it has named, in
-/// order. A node's number is its place.
+/// order, by their numbers in a store. A node's place is the number of its identifier.
 #[derive(Debug, Drop)]
 pub struct Issuer {
-    pub order: Sequence<Text>,
+    pub order: Sequence<TermId>,
 }
 
 /// What n-degree hashing gives: the hash, the issuer, and whether a tie was met that counts.
 #[derive(Debug, Drop)]
 pub struct Path {
-    pub hash: [u8; 64],
+    pub hash: HexDigest,
     pub issuer: Issuer,
     pub tie: bool,
 }

@@ -1,28 +1,31 @@
 //! Related hashes, and nodes grouped by them (RDF Dataset Canonicalization, 4.7).
-ghost use Rattle.std.specs.Prelude.{◌≡◌, ◌<◌, ◌++◌, map, length, All, IsTrue, OnOk, IfOk};
+ghost use Rattle.std.specs.Prelude.{◌≡◌, ◌<◌, ◌++◌, map, length, slice_get, All, IsTrue, OnOk, IfOk};
+ghost use Rattle.digest_mac.specs.declared.hash.Hash.{Hash};
 ghost use Rattle.rdfc_ndegree.specs.Groups.{position_text, identifier_or_hash, groups_by_hash, with_related_hash, related_groups};
 ghost use Rattle.rdfc_ndegree.specs.Internal.Grouping.{node_hash, add_to_groups, last_has_hash};
 ghost use Rattle.rdfc_ndegree.specs.Table.{group_in};
-ghost use Rattle.rdfc_ndegree.specs.Table.{occurrence_of, table_nodes};
+ghost use Rattle.rdfc_ndegree.specs.Datasets.{occurrence};
+ghost use Rattle.rdfc_ndegree.specs.Table.{related_in_row, table_nodes};
 
 use crate::canonical::Canonical;
-use crate::identifiers::{place_of, push_canonical, push_temporary};
-use crate::table::{NodeTable, Position, Related};
+use crate::identifiers::{push_canonical, push_temporary};
+use crate::table::{NodeTable, Position, RelatedNode, see_closed};
+use crate::temporary::Temporary;
 use base_types::{Memory, Sequence};
-use digest_mac::sha256_hex;
+use digest_mac::{Hash, HexDigest, digest_hex};
 use std::alloc::Global;
 
 /// A node with a hash of it.
 #[derive(Debug, Drop)]
 pub(crate) struct HashedNode {
-    pub hash: [u8; 64],
+    pub hash: HexDigest,
     pub node: usize,
 }
 
 /// The nodes with one related hash, each as often as it has that hash.
 #[derive(Debug, Drop)]
 pub struct NodeGroup {
-    pub hash: [u8; 64],
+    pub hash: HexDigest,
     pub members: Sequence<usize>,
 }
 
@@ -33,58 +36,78 @@ pub struct NodeGroup {
 /// # Errors
 ///
 /// `Memory`: there is no memory for the groups.
-pub fn related_groups(
+pub(crate) fn related_groups(
     alloc: Global,
-    table: &NodeTable,
+    table: &NodeTable<'_, '_>,
     canonical: &Canonical,
-    issuer: &[usize],
+    issuer: &Temporary,
     node: usize,
+    hash: Hash,
 ) -> Result<Vec<NodeGroup>, Memory>
     ensures groups { IfOk result (λ groups. map group_in groups.items
-        ≡ related_groups (table_nodes table.now) canonical.now issuer.now node) }
+        ≡ related_groups (table_nodes hash table.now) canonical.now issuer.now node) }
     ensures listed { IfOk result (λ groups.
         All (λ g. All (λ m. m < length table.now) g.members) groups.items) }
 {
-    let Some(row) = table.row(node) else {
-        return Ok(Vec::new(alloc));
-    };
-    let hashed = related_hashes(alloc, table, canonical, issuer, row.related.as_slice())?;
+    see_closed(table);
+    let hashed = related_hashes(alloc, table, canonical, issuer, node, hash)?;
     let groups = group_by_hash(alloc, hashed)?;
     Ok(groups)
 }
 
-/// Each occurrence's node with the related hash.
+/// The node of each occurrence with the related hash.
 fn related_hashes(
     alloc: Global,
-    table: &NodeTable,
+    table: &NodeTable<'_, '_>,
     canonical: &Canonical,
-    issuer: &[usize],
-    related: &[Related],
+    issuer: &Temporary,
+    node: usize,
+    hash: Hash,
 ) -> Result<Vec<HashedNode>, Memory>
     ensures { IfOk result (λ hs. map node_hash hs.items
-        ≡ map (with_related_hash (table_nodes table.now) canonical.now issuer.now)
-        (map occurrence_of related.now)) }
+        ≡ map (with_related_hash (table_nodes hash table.now) canonical.now issuer.now)
+        (related_in_row (slice_get table.now node))) }
 {
     let mut hashed = Vec::new(alloc);
-    for occurrence in related {
-        let mut text = Vec::new(alloc);
-        push_position(&mut text, occurrence)?;
-        push_identifier_or_hash(alloc, &mut text, table, canonical, issuer, occurrence.node)?;
-        hashed.push(HashedNode {
-            hash: sha256_hex(text.as_slice()),
-            node: occurrence.node,
-        })?;
+    for place in 0..table.related_len(node) {
+        let Some(related) = table.related(node, place) else {
+            return Ok(hashed);
+        };
+        let next = related_hash(alloc, table, canonical, issuer, &related, hash)?;
+        hashed.push(next)?;
     }
     Ok(hashed)
 }
 
+/// The node of one occurrence with the related hash. RDF Dataset Canonicalization, 4.7.3.
+fn related_hash(
+    alloc: Global,
+    table: &NodeTable<'_, '_>,
+    canonical: &Canonical,
+    issuer: &Temporary,
+    related: &RelatedNode<'_>,
+    hash: Hash,
+) -> Result<HashedNode, Memory>
+    ensures { IfOk result (λ h. node_hash h
+        ≡ with_related_hash (table_nodes hash table.now) canonical.now issuer.now
+        (occurrence related.now.position related.now.predicate.now related.now.node)) }
+{
+    let mut text = Vec::new(alloc);
+    push_position(&mut text, related)?;
+    push_identifier_or_hash(&mut text, table, canonical, issuer, related.node)?;
+    Ok(HashedNode {
+        hash: digest_hex(hash, text.as_slice()),
+        node: related.node,
+    })
+}
+
 /// `s`, `o` or `g`, and for the first two the predicate. RDF Dataset Canonicalization, 4.7.3, steps
 /// 1 and 2.
-fn push_position(text: &mut Vec<u8>, occurrence: &Related) -> Result<(), Memory>
+fn push_position(text: &mut Vec<u8>, related: &RelatedNode<'_>) -> Result<(), Memory>
     ensures { OnOk result (text.new.items
-        ≡ text.old.items ++ position_text occurrence.now.position occurrence.now.predicate) }
+        ≡ text.old.items ++ position_text related.now.position related.now.predicate.now) }
 {
-    match occurrence.position {
+    match related.position {
         Position::Subject => text.push(b's')?,
         Position::Object => text.push(b'o')?,
         Position::Graph => {
@@ -92,7 +115,7 @@ fn push_position(text: &mut Vec<u8>, occurrence: &Related) -> Result<(), Memory>
             return Ok(());
         }
     }
-    text.extend_from_slice(occurrence.predicate.as_bytes())?;
+    text.extend_from_slice(related.predicate.as_bytes())?;
     Ok(())
 }
 
@@ -100,25 +123,26 @@ fn push_position(text: &mut Vec<u8>, occurrence: &Related) -> Result<(), Memory>
 /// RDF Dataset Canonicalization, 4.7.3, steps 3 and 4.
 #[tactic(auto, using(crate::proofs::Walks::known))]
 fn push_identifier_or_hash(
-    alloc: Global,
     text: &mut Vec<u8>,
-    table: &NodeTable,
+    table: &NodeTable<'_, '_>,
     canonical: &Canonical,
-    issuer: &[usize],
+    issuer: &Temporary,
     node: usize,
 ) -> Result<(), Memory>
-    ensures { OnOk result (text.new.items
+    ensures { (algorithm : Hash) → OnOk result (text.new.items
         ≡ text.old.items
-        ++ identifier_or_hash (table_nodes table.now) canonical.now issuer.now node) }
+        ++ identifier_or_hash (table_nodes algorithm table.now) canonical.now issuer.now node) }
 {
     if let Some(number) = canonical.number(node) {
-        return push_canonical(alloc, text, number);
+        push_canonical(text, number)?;
+        return Ok(());
     }
-    if let Some(number) = place_of(issuer, node) {
-        return push_temporary(alloc, text, number);
+    if let Some(number) = issuer.number(node) {
+        push_temporary(text, number)?;
+        return Ok(());
     }
-    if let Some(row) = table.row(node) {
-        text.extend_from_slice(row.first.as_slice())?;
+    if let Some(first) = table.first(node) {
+        text.extend_from_slice(first.as_str().as_bytes())?;
     }
     Ok(())
 }
@@ -149,7 +173,7 @@ fn add(alloc: Global, groups: &mut Vec<NodeGroup>, next: &HashedNode) -> Result<
     ensures { OnOk result (map group_in groups.new.items
         ≡ add_to_groups (map group_in groups.old.items) (node_hash next.now)) }
 {
-    if last_has_hash(groups.as_slice(), &next.hash) {
+    if last_has_hash(groups.as_slice(), next.hash) {
         let last = groups.len() - 1;
         return groups[last].members.push(next.node);
     }
@@ -164,12 +188,12 @@ fn add(alloc: Global, groups: &mut Vec<NodeGroup>, next: &HashedNode) -> Result<
 
 /// Whether there is a last group and it has this hash.
 #[tactic(auto, using(crate::proofs::Adding::ending))]
-fn last_has_hash(groups: &[NodeGroup], hash: &[u8; 64]) -> bool
-    ensures last { result ≡ last_has_hash (map group_in groups.now) hash.now }
+fn last_has_hash(groups: &[NodeGroup], hash: HexDigest) -> bool
+    ensures last { result ≡ last_has_hash (map group_in groups.now) hash }
     ensures some { IsTrue result → 0 < length groups.now }
 {
     match groups.last() {
-        Some(group) => group.hash == *hash,
+        Some(group) => group.hash == hash,
         None => false,
     }
 }

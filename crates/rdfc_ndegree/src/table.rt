@@ -1,12 +1,13 @@
 //! The table of blank nodes by number (RDF Dataset Canonicalization, 4.3).
-ghost use Rattle.std.specs.Prelude.{◌≡◌, ◌<◌, length, slice_get};
-ghost use Rattle.std.specs.Option.{option_copied};
-ghost use Rattle.rdfc_ndegree.specs.Table.{IsClosed};
-ghost use Rattle.rdfc_ndegree.specs.Table.{names_of, number_among};
+ghost use Rattle.std.specs.Prelude.{◌≡◌, length, map, slice_get};
+ghost use Rattle.std.specs.Option.{option_map};
+ghost use Rattle.rdfc_ndegree.specs.Datasets.{occurrence};
+ghost use Rattle.rdfc_ndegree.specs.Table.{AreRowsKnown, IsClosed, related_in_row, row_texts};
 
-use crate::names::Names;
-use base_types::{Sequence, Text};
+use base_types::Sequence;
+use digest_mac::HexDigest;
 use std::marker::Model;
+use term_store::{TermId, Terms};
 
 /// Where a related node stands in a statement.
 #[derive(Clone, Copy, Debug, PartialEq, Eq)]
@@ -16,74 +17,108 @@ pub enum Position {
     Graph,
 }
 
-/// One occurrence of a related node: where it stands, the statement's predicate in angle brackets,
-/// and the number of the node.
-#[derive(Debug, Drop)]
-pub struct Related {
+/// One occurrence of a related node as a row keeps it: where it stands, the number of the statement's
+/// predicate in the store, and the number of the node.
+#[derive(Clone, Copy, Debug)]
+pub(crate) struct StoredRelated {
     pub position: Position,
-    pub predicate: Text,
+    pub predicate: TermId,
     pub node: usize,
 }
 
-/// A node: the text by which statements name it, its first-degree hash, and its related nodes, once
-/// for each occurrence.
+/// A node: the number by which statements name it, its first-degree hash, and its related nodes,
+/// once for each occurrence.
 #[derive(Debug, Drop)]
-pub struct NodeRow {
-    pub blank: Text,
-    pub first: [u8; 64],
-    pub related: Sequence<Related>,
+pub(crate) struct StoredRow {
+    pub blank: TermId,
+    pub first: HexDigest,
+    pub related: Sequence<StoredRelated>,
 }
 
-/// The blank nodes of a dataset by number. A node's number is its row.
-#[derive(Debug, Drop)]
-pub struct NodeTable {
-    rows: Vec<NodeRow>,
-    names: Names,
+/// One occurrence of a related node: where it stands, the statement's predicate in angle brackets,
+/// and the number of the node.
+#[derive(Clone, Copy, Debug)]
+pub struct RelatedNode<'a> {
+    pub position: Position,
+    pub predicate: &'a str,
+    pub node: usize,
 }
 
-impl Model for NodeTable {
-    ghost use Rattle.std.specs.Prelude.{List};
-    ghost use Rattle.rdfc_ndegree.specs.declared.table.NodeRow.{NodeRow};
-    ghost use Rattle.rdfc_ndegree.specs.Table.{IsClosed};
-    ghost use Rattle.std.specs.Prelude.{◌≡◌};
-    ghost use Rattle.rdfc_ndegree.specs.Table.{names_of};
+/// The blank nodes of a dataset by number, over the store that keeps its terms. A node's number is
+/// its row. Contracts see rows with the texts of the store.
+#[derive(Drop)]
+pub struct NodeTable<'t, 'a> {
+    terms: &'t Terms<'a>,
+    rows: Vec<StoredRow>,
+}
+
+impl<'t, 'a> Model for NodeTable<'t, 'a> {
+    ghost use Rattle.std.specs.Prelude.{List, map};
+    ghost use Rattle.rdfc_ndegree.specs.Table.{AreRowsKnown, IsClosed, NodeRow, row_texts};
 
     ghost Value = { List NodeRow };
 
-    ghost view = { λ t. t.rows.items };
+    ghost view = { λ t. map (row_texts t.terms.now) t.rows.items };
 
-    ghost invariant = { λ t. IsClosed t.rows.items × (t.names ≡ names_of t.rows.items) };
+    ghost invariant = { λ t. IsClosed (map (row_texts t.terms.now) t.rows.items)
+        × AreRowsKnown t.terms.now t.rows.items };
 }
 
-impl NodeTable {
-    /// The table with these rows, whose texts `names` has in their order.
-    pub(crate) fn from_rows(rows: Vec<NodeRow>, names: Names) -> NodeTable
-        requires closed { IsClosed rows.items }
-        requires names { names ≡ names_of rows.items }
-        ensures { result ≡ rows.items }
+impl<'t, 'a> NodeTable<'t, 'a> {
+    /// The table with these rows.
+    pub(crate) fn from_rows(terms: &'t Terms<'a>, rows: Vec<StoredRow>) -> NodeTable<'t, 'a>
+        requires closed { IsClosed (map (row_texts terms.now) rows.items) }
+        requires known { AreRowsKnown terms.now rows.items }
+        ensures { result ≡ map (row_texts terms.now) rows.items }
     {
-        NodeTable { rows, names }
+        NodeTable { terms, rows }
     }
 
-    /// The number of the node that statements name `blank`.
-    pub fn number_of(&self, blank: &str) -> Option<usize>
-        ensures { result ≡ number_among (names_of self.now) blank.now }
-    {
-        self.names.number_of(blank)
-    }
-
-    /// The number of nodes.
+    /// The number of nodes. The related nodes of each are nodes of the table.
     pub fn len(&self) -> usize
-        ensures { result ≡ length self.now }
+        ensures count { result ≡ length self.now }
+        ensures closed { IsClosed self.now }
     {
         self.rows.len()
     }
 
-    /// The row of a node. Its related nodes are rows of the table.
-    pub fn row(&self, node: usize) -> Option<&NodeRow>
-        ensures row { option_copied result ≡ slice_get self.now node }
-        ensures closed { IsClosed self.now }
+    /// The first-degree hash of a node.
+    pub fn first(&self, node: usize) -> Option<HexDigest>
+        ensures { result ≡ option_map (λ row. row.first) (slice_get self.now node) }
     {
-        self.rows.get(node)
+        let row = self.rows.get(node)?;
+        Some(row.first)
     }
+
+    /// The number of occurrences of related nodes of a node.
+    pub fn related_len(&self, node: usize) -> usize
+        ensures { result ≡ length (related_in_row (slice_get self.now node)) }
+    {
+        match self.rows.get(node) {
+            Some(row) => row.related.len(),
+            None => 0,
+        }
+    }
+
+    /// One occurrence of a related node of a node, counted from 0.
+    pub fn related(&self, node: usize, place: usize) -> Option<RelatedNode<'a>>
+        ensures { option_map (λ r. occurrence r.position r.predicate.now r.node) result
+            ≡ slice_get (related_in_row (slice_get self.now node)) place }
+    {
+        let row = self.rows.get(node)?;
+        let related = row.related.get(place)?;
+        let terms = self.terms;
+        Some(RelatedNode {
+            position: related.position,
+            predicate: terms.text(related.predicate),
+            node: related.node,
+        })
+    }
+}
+
+/// Each related node is a row of the table.
+pub(crate) fn see_closed(table: &NodeTable<'_, '_>)
+    ensures { IsClosed table.now }
+{
+    let _nodes = table.len();
 }

@@ -1,83 +1,83 @@
 //! The path of an arrangement (RDF Dataset Canonicalization, 4.8.3, steps 5.4.4 and 5.4.5).
-ghost use Rattle.std.specs.Prelude.{◌≡◌, ◌∷◌, ◌++◌, [], List, OnOk, IfOk};
-ghost use Rattle.rdfc_ndegree.specs.NDegree.{issue_temporary, identifier, issuer_copy, first_path, recursion_list, path_part};
-ghost use Rattle.rdfc_ndegree.specs.Table.{table_nodes};
-ghost use Rattle.rdfc_ndegree.specs.declared.table.NodeRow.{NodeRow};
+ghost use Rattle.std.specs.Prelude.{◌≡◌, ◌++◌, ℕ, List, OnOk, IfOk};
+ghost use Rattle.digest_mac.specs.declared.hash.Hash.{Hash};
+ghost use Rattle.rdfc_ndegree.specs.NDegree.{first_path, issuer_copy, path_part, recursion_list};
+ghost use Rattle.rdfc_ndegree.specs.NumberIssuers.{number_in};
+ghost use Rattle.rdfc_ndegree.specs.Table.{NodeRow, table_nodes};
 
 use crate::canonical::Canonical;
-use crate::identifiers::{place_of, push_canonical, push_temporary};
+use crate::identifiers::{push_canonical, push_temporary};
+use crate::temporary::Temporary;
 use base_types::{Memory, Sequence};
+use digest_mac::HexDigest;
 use std::alloc::Global;
 
-/// The first pass over an arrangement: the path that its members give, the issuer after them, and
-/// those of them that were named in this pass, in order.
+/// The first pass over an arrangement: the path that its members give, and those of them that were
+/// named in this pass, in order.
 #[derive(Debug, Drop)]
-pub struct Walk {
+pub(crate) struct Walk {
     pub path: Sequence<u8>,
-    pub issuer: Sequence<usize>,
     pub recursion_list: Sequence<usize>,
 }
 
-/// Goes over the members of an arrangement: each one that has no identifier yet is named in a copy
-/// of the issuer, and the identifier of each goes to the path. RDF Dataset Canonicalization, 4.8.3,
-/// step 5.4.4.
+/// Goes over the members of an arrangement: each one that has no identifier yet is named in the
+/// issuer, and the identifier of each goes to the path. RDF Dataset Canonicalization, 4.8.3, step
+/// 5.4.4.
 ///
 /// # Errors
 ///
-/// `Memory`: there is no memory for the copy or the path.
-pub fn walk_over(
+/// `Memory`: there is no memory for the path or for what is named.
+pub(crate) fn walk_over(
     alloc: Global,
     canonical: &Canonical,
-    issuer: &[usize],
+    issuer: &mut Temporary,
     members: &[usize],
 ) -> Result<Walk, Memory>
-    ensures { (rows : List NodeRow) → IfOk result (λ w.
-        (w.path ≡ first_path (table_nodes rows) canonical.now issuer.now members.now)
-        × (w.issuer ≡ issuer_copy (table_nodes rows) canonical.now issuer.now members.now)
+    ensures { (algorithm : Hash) (rows : List NodeRow) → IfOk result (λ w.
+        (w.path ≡ first_path (table_nodes algorithm rows) canonical.now issuer.old members.now)
+        × (issuer.new
+        ≡ issuer_copy (table_nodes algorithm rows) canonical.now issuer.old members.now)
         × (w.recursion_list
-        ≡ recursion_list (table_nodes rows) canonical.now issuer.now members.now)) }
+        ≡ recursion_list (table_nodes algorithm rows) canonical.now issuer.old members.now)) }
 {
     let mut path = Vec::new(alloc);
-    let mut issuer_copy = issuer.to_vec(alloc)?;
     let mut recursion_list = Vec::new(alloc);
     for member in members {
         if let Some(number) = canonical.number(*member) {
-            push_canonical(alloc, &mut path, number)?;
-        } else if let Some(number) = place_of(issuer_copy.as_slice(), *member) {
-            push_temporary(alloc, &mut path, number)?;
+            push_canonical(&mut path, number)?;
+        } else if let Some(number) = issuer.number(*member) {
+            push_temporary(&mut path, number)?;
         } else {
-            push_temporary(alloc, &mut path, issuer_copy.len())?;
-            issuer_copy.push(*member)?;
+            push_temporary(&mut path, issuer.len())?;
+            issuer.append(*member)?;
             recursion_list.push(*member)?;
         }
     }
     Ok(Walk {
         path: Sequence::from_vec(path),
-        issuer: Sequence::from_vec(issuer_copy),
         recursion_list: Sequence::from_vec(recursion_list),
     })
 }
 
-/// Puts what a nested call adds at the end of the path: `_:` and the member's temporary identifier,
-/// and the hash in angle brackets. RDF Dataset Canonicalization, 4.8.3, steps 5.4.5.2 and 5.4.5.3.
+/// Puts what a nested call adds at the end of the path: `_:` and the temporary identifier with the
+/// member's number, and the hash in angle brackets. RDF Dataset Canonicalization, 4.8.3, steps
+/// 5.4.5.2 and 5.4.5.3.
 ///
 /// # Errors
 ///
 /// `Memory`: there is no memory for the longer path.
-pub fn push_path_part(
-    alloc: Global,
+pub(crate) fn push_path_part(
     path: &mut Vec<u8>,
-    issuer: &[usize],
-    member: usize,
-    hash: &[u8; 64],
+    number: usize,
+    hash: HexDigest,
 ) -> Result<(), Memory>
-    ensures { (rows : List NodeRow) → OnOk result (path.new.items
-        ≡ path.old.items ++ path_part (table_nodes rows) issuer.now member hash.now) }
+    ensures { (algorithm : Hash) (rows : List NodeRow) (i : List ℕ) (m : ℕ)
+        → number ≡ number_in i m → OnOk result (path.new.items
+        ≡ path.old.items ++ path_part (table_nodes algorithm rows) i m hash) }
 {
-    let number = place_of(issuer, member).unwrap_or(issuer.len());
-    push_temporary(alloc, path, number)?;
+    push_temporary(path, number)?;
     path.push(b'<')?;
-    path.extend_from_slice(hash.as_slice())?;
+    path.extend_from_slice(hash.as_str().as_bytes())?;
     path.push(b'>')?;
     Ok(())
 }

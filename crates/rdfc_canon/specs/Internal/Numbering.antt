@@ -7,7 +7,7 @@ use Rattle.rdfc_ndegree.specs.Answers.{Spending}
 use Rattle.rdfc_ndegree.specs.declared.limits.Limits.{Limits}
 use Rattle.rdfc_ndegree.specs.Internal.Issuing.{issue_numbers}
 use Rattle.rdfc_ndegree.specs.NDegree.{Outcome, IsNDegree}
-use Rattle.rdfc_ndegree.specs.Run.{RunOutcome, IsRun, lacking, take_issuers, InHashOrder, results_tie, work_of, depth_of}
+use Rattle.rdfc_ndegree.specs.Run.{RunOutcome, IsRun, lacking, take_issuers, InHashOrder, results_tie, work_of}
 use Rattle.rdfc_ndegree.specs.declared.path.NodePath.{NodePath}
 
 -- the same for each result in order, with the nodes of its issuer
@@ -35,26 +35,20 @@ pub record IsPathOf (path : NodePath) (o : Outcome ℕ) : Type 0 where
   pub issuer : path.issuer ≡ o.issuer
   pub tie : path.tie ≡ o.tie
 
--- The paths are those of calls of the nodes ns, the count has risen by exactly their arrangements,
--- and none is deeper than the limit.
+-- The paths are those of calls of the nodes ns, and the count has risen by exactly their
+-- arrangements.
 pub record AnswersHashes (v : Nodes ℕ) (c ns : List ℕ) (paths : List NodePath) (s : Spending)
     : Type 0 where
   pub outcomes : List (Outcome ℕ)
   pub hashed : AllZip (HashesAlone v c) ns outcomes
   pub paths_are : AllZip IsPathOf paths outcomes
   pub spent : s.after ≡ s.before + work_of outcomes
-  pub within : depth_of outcomes ≤ s.limit
 
--- the work, or the depth, of some calls of the nodes ns is over the limit
+-- the work of some calls of the nodes ns, with what was spent before, is over the limit
 pub record HashesOver {B : Type 0} (v : Nodes B) (c ns : List B) (old limit : ℕ) : Type 0 where
   pub outcomes : List (Outcome B)
   pub hashed : AllZip (HashesAlone v c) ns outcomes
   pub over : limit < old + work_of outcomes
-
-pub record HashesDeep {B : Type 0} (v : Nodes B) (c ns : List B) (limit : ℕ) : Type 0 where
-  pub outcomes : List (Outcome B)
-  pub hashed : AllZip (HashesAlone v c) ns outcomes
-  pub over : limit < depth_of outcomes
 
 -- A group is taken: its results, put in hash order, have made the canonical issuer d of c.
 pub record AnswersRound {B : Type 0} (v : Nodes B) (c members d : List B) (tie : Bool)
@@ -67,9 +61,8 @@ pub record AnswersRound {B : Type 0} (v : Nodes B) (c members d : List B) (tie :
   pub issuer_is : d ≡ take_issuers v c sorted
   pub tie_is : tie ≡ results_tie outcomes
   pub spent : s.after ≡ s.before + work_of outcomes
-  pub within : depth_of outcomes ≤ s.limit
 
--- Issuer, tie and work are those of one run, and neither its work nor its depth is over its limit.
+-- Issuer, tie and work are those of one run, and its work is not over the limit.
 pub record AnswersNumbers {B : Type 0} (v : Nodes B) (limits : Limits) (issuer : List B)
     (tie : Bool) (work : ℕ) : Type 0 where
   pub run : RunOutcome B
@@ -78,4 +71,3 @@ pub record AnswersNumbers {B : Type 0} (v : Nodes B) (limits : Limits) (issuer :
   pub tie_is : tie ≡ run.tie
   pub work_is : work ≡ run.work
   pub within_work : run.work ≤ limits.work
-  pub within_depth : run.depth ≤ limits.depth

@@ -1,11 +1,16 @@
 -- How the program groups nodes by hash: one more at the end of the groups.
-use Rattle.std.specs.Prelude.{◌++◌, bytes_eq, Bool, false, ℕ, List, [], ◌∷◌, if◌then◌else◌}
+use Rattle.std.specs.Prelude.{◌++◌, bytes_eq, Bool, false, ℕ, List, [], ◌∷◌, if◌then◌else◌, slice_get}
 use Rattle.rdfc_ndegree.specs.Groups.{NodeHash, Group}
+use Rattle.rdfc_ndegree.specs.Table.{NodeRow, first_in}
 use Rattle.rdfc_ndegree.specs.declared.related.HashedNode.{HashedNode}
 
 -- a number with its hash, and a group, as the definitions have them
 abbrev pub node_hash : HashedNode → NodeHash ℕ
 node_hash h = record { hash = h.hash; node = h.node }
+
+-- the number of a row with its first-degree hash
+abbrev pub row_hash : List NodeRow → ℕ → NodeHash ℕ
+row_hash rows n = record { hash = first_in (slice_get rows n); node = n }
 
 -- the group of one node
 abbrev pub group_of_one : {B : Type 0} → NodeHash B → Group B

@@ -1,4 +1,4 @@
--- An issuer over numbers after it has named several. RDF Canonicalization, 4.5.
+-- Issuers over numbers. RDF Canonicalization, 4.5.
 use Rattle.std.specs.Prelude.{ℕ, List, [], ◌∷◌}
 use Rattle.rdfc_ndegree.specs.NumberIssuers.{issue_number}
 

@@ -2,7 +2,7 @@
 -- than what comes of it before the next arrangement is counted.
 use Rattle.std.specs.Prelude.{◌<◌, ◌+◌, ◌-◌, ◌*◌, ℕ, List, [], ◌∷◌, length}
 use Rattle.std.specs.List.{sum_by}
-use Rattle.rdfc_ndegree.specs.declared.table.NodeRow.{NodeRow}
+use Rattle.rdfc_ndegree.specs.Table.{NodeRow}
 use Rattle.rdfc_ndegree.specs.declared.limits.Meter.{Meter}
 use Rattle.rdfc_ndegree.specs.declared.moves.Waiting.{Waiting}
 use Rattle.rdfc_ndegree.specs.declared.moves.Waiting.TheVariants as waiting
@@ -19,9 +19,9 @@ abbrev pub arrangement_weight : List NodeRow → ℕ
 arrangement_weight rows = 3 * length rows + 4
 
 abbrev pub question_weight : ℕ → Question → ℕ
-question_weight most (question.Call node issuer depth) = 2
-question_weight most (question.Choice issuer members depth) = 1
-question_weight most (question.Trail issuer arrangement depth) = most
+question_weight most (question.Call node) = 2
+question_weight most (question.Choice members) = 1
+question_weight most (question.Trail arrangement) = most
 
 abbrev pub reply_weight : Reply → ℕ
 reply_weight (reply.Call p) = 1
@@ -31,7 +31,7 @@ reply_weight (reply.Trail e) = 3
 abbrev pub waiting_weight : Waiting → ℕ
 waiting_weight (waiting.Call t hash) = 0
 waiting_weight (waiting.Choice t) = 0
-waiting_weight (waiting.Trail t member) = 3 * (1 + length (members_left t))
+waiting_weight (waiting.Trail t kept) = 3 * (1 + length (members_left t))
 
 abbrev pub move_weight : ℕ → Move → ℕ
 move_weight most (move.Waits w q) = waiting_weight w + question_weight most q

@@ -1,5 +1,6 @@
 use Rattle.std.proofs.Common.{ap, ◌∙◌, map}
-use Rattle.nquads.specs.Texts.{label_text, text_line}
+use Rattle.nquads.specs.Texts.{label_text}
+use Rattle.nquads.specs.Internal.TextLines.{text_line}
 use Rattle.nquads.proofs.LineLemmas.{kept-canonical}
 use Rattle.nquads.proofs.lines.canonical_lines.Goals as goal
 

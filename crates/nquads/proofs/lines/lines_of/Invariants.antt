@@ -1,5 +1,6 @@
 use Rattle.std.proofs.Common.{◌≡◌, take, map}
-use Rattle.nquads.specs.Texts.{label_text, text_line}
+use Rattle.nquads.specs.Texts.{label_text}
+use Rattle.nquads.specs.Internal.TextLines.{text_line}
 use Rattle.nquads.proofs.lines.lines_of.Given as goal
 
 abbrev pub invariant-loop-quad : goal.invariant-loop-quad

@@ -1,9 +1,10 @@
+use Rattle.nquads.specs.Texts.{label_text}
 use Rattle.nquads.proofs.LineLemmas.{assembled}
 use Rattle.nquads.proofs.lines.write_line.Goals as goal
 
 pub returns : goal.returns
-returns g c =
-    assembled (g.L.BlankLabels.label_of c.args.labels.now) c.args.quad.now _ _ _ _ _ _ _ _ _ _
+returns c =
+    assembled (label_text c.args.labels.now) c.args.quad.now _ _ _ _ _ _ _ _ _ _
     c.in_ok-out.ensures
     c.in_ok-push_part.ensures
     c.in_ok-push_str.ensures.ok

@@ -1,8 +1,7 @@
 use Rattle.std.proofs.Common.{◌≡◌, map}
-use Rattle.rdfc_ndegree.specs.Run.{with_first_hash}
-use Rattle.rdfc_ndegree.specs.Internal.Grouping.{node_hash}
-use Rattle.rdfc_ndegree.specs.Table.{numbers_below, table_nodes}
+use Rattle.rdfc_ndegree.specs.Internal.Grouping.{node_hash, row_hash}
+use Rattle.rdfc_ndegree.specs.Table.{numbers_below}
 use Rattle.rdfc_ndegree.proofs.firsts.hashed_rows.Given as goal
 
 abbrev pub invariant-loop-node : goal.invariant-loop-node
-invariant-loop-node l = map node_hash l.hashed.items ≡ map (with_first_hash (table_nodes l.table)) (numbers_below l.node)
+invariant-loop-node l = map node_hash l.hashed.items ≡ map (row_hash l.table) (numbers_below l.node)

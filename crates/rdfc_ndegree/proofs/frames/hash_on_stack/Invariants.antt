@@ -6,7 +6,7 @@ use Rattle.rdfc_ndegree.proofs.frames.hash_on_stack.Given as goal
 
 -- the stack was begun for this call
 abbrev pub invariant-loop-next : goal.invariant-loop-next
-invariant-loop-next l = InLoop l.table l.canonical (call_task l.fn.node l.fn.issuer l.fn.meter.spent l.fn.depth) l.fn.meter l.meter l.stack l.next
+invariant-loop-next l = InLoop l.hash l.table l.canonical (call_task l.fn.node l.fn.issuer l.fn.meter.spent) l.fn.meter l.meter l.stack l.shared l.next
 
 -- each turn counts an arrangement or makes less of what is left
 abbrev pub decreases-loop-next : goal.decreases-loop-next

@@ -3,5 +3,5 @@ use Rattle.rdfc_ndegree.proofs.hash_groups.begin_call.Goals as goal
 
 pub returns-clause-ok : goal.returns-clause-ok
 returns-clause-ok c = λ limits spent fit.
-    c.next_group.ensures.ok c.args.table.now c.args.canonical.now limits c.args.node c.args.issuer spent spent
-    (call-stands c.args.table.now c.args.canonical.now limits spent c.args.depth fit.1 c.args.node c.args.issuer c.new.result.items c.in_ok-groups.groups.items c.new.ensures.items (rw c.as_slice.ensures at c.in_ok-groups.ensures.groups) c.in_ok-groups.ensures.listed)
+    c.next_group.ensures.ok c.args.table.now c.args.canonical.now limits c.args.node c.args.issuer.now c.args.issuer.now spent spent
+    (call-stands c.args.hash c.args.table.now c.args.canonical.now limits spent c.args.node c.args.issuer.now c.new.result.items c.in_ok-groups.groups.items c.new.ensures.items c.in_ok-groups.ensures.groups c.in_ok-groups.ensures.listed)

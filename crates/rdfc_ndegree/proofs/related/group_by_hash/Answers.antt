@@ -1,4 +1,4 @@
-use Rattle.std.proofs.Common.{◌≡◌, ◌∙◌, ap, map, rules, refl, of_calls, take, sym, subst, get_or, []}
+use Rattle.std.proofs.Common.{◌≡◌, ◌∙◌, ap, map, rules, of_calls, take, sym, subst}
 use Rattle.std.specs.List.Sorted.{IsStableByKey, IsSortedByKey}
 use Rattle.std.proofs.lemmas.List.{take_all}
 use Rattle.std.proofs.lemmas.Fn.{always_returns_same}
@@ -19,7 +19,6 @@ returns c =
 pub loop-next-preserved : goal.loop-next-preserved
 loop-next-preserved c =
     let sorted : IsSortedByKey (λ (h : HashedNode). h.hash) text_cmp c.sort_by_key.new.self.items = c.in_ok-sort_by_key.ensures.sorted (λ (h : HashedNode). h.hash) (always_returns_same _ _ _ (λ a r f k. search (rules, of_calls))) in
-    let default : HashedNode = record { hash = []; node = 0 } in
     let up : IsSortedByKey (λ (h : HashedNode). h.hash) text_cmp c.deref-next-items.result.now = subst (λ hs. IsSortedByKey (λ (h : HashedNode). h.hash) text_cmp hs) (sym c.deref-next-items.ensures.value) sorted in
-    c.in_ok-add.ensures ∙ ap (λ gs. add_to_groups gs (node_hash (get_or c.deref-next-items.result.now c.loop-next.next-index default))) c.loop-next.invariant
-    ∙ grouped-next c.deref-next-items.result.now c.loop-next.next-index (get_or c.deref-next-items.result.now c.loop-next.next-index default) default c.loop-next-test.true refl up
+    c.in_ok-add.ensures ∙ ap (λ gs. add_to_groups gs (node_hash c.next-item.result)) c.loop-next.invariant
+    ∙ grouped-next c.deref-next-items.result.now c.loop-next.next-index c.next-item.result c.next-item.result c.loop-next-test.true c.next-item.is up

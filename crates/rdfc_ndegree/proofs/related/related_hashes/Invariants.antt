@@ -1,8 +1,9 @@
 use Rattle.std.proofs.Common.{◌≡◌, map, take}
+use Rattle.std.specs.Prelude.{slice_get}
 use Rattle.rdfc_ndegree.specs.Groups.{with_related_hash}
-use Rattle.rdfc_ndegree.specs.Table.{occurrence_of, table_nodes}
+use Rattle.rdfc_ndegree.specs.Table.{related_in_row, table_nodes}
 use Rattle.rdfc_ndegree.specs.Internal.Grouping.{node_hash}
 use Rattle.rdfc_ndegree.proofs.related.related_hashes.Given as goal
 
-abbrev pub invariant-loop-occurrence : goal.invariant-loop-occurrence
-invariant-loop-occurrence l = map node_hash l.hashed.items ≡ map (with_related_hash (table_nodes l.table) l.canonical l.issuer) (map occurrence_of (take l.occurrence-index l.related))
+abbrev pub invariant-loop-place : goal.invariant-loop-place
+invariant-loop-place l = map node_hash l.hashed.items ≡ map (with_related_hash (table_nodes l.hash l.table) l.canonical l.issuer) (take l.place (related_in_row (slice_get l.table l.node)))

@@ -1,5 +1,0 @@
-use Rattle.std.proofs.Common.{◌≡◌, ◌++◌, take}
-use Rattle.rdfc_ndegree.proofs.blank_nodes.push_copies.Given as goal
-
-abbrev pub invariant-loop-text : goal.invariant-loop-text
-invariant-loop-text l = l.all.items ≡ l.initial.all.items ++ take l.text-index l.texts
