@@ -49,9 +49,9 @@ def build_with(copy, name, uses, program):
     return built
 
 
-def timed(program, words, data, runs):
+def timed(program, words, data, runs, before=None):
     """The least seconds of processor time of the runs, the peak memory in bytes where /usr/bin/time tells it, the
-    exit status and what was written."""
+    exit status and what was written. `before` is called in the process of each run before the program begins."""
     best, peak, status, reply = None, None, 0, b""
     for _ in range(runs):
         with tempfile.TemporaryFile() as stdin, tempfile.TemporaryFile() as stdout, tempfile.NamedTemporaryFile() as told:
@@ -59,7 +59,7 @@ def timed(program, words, data, runs):
             stdin.seek(0)
             # A process's peak counts from before its exec, so a small one, and not this one, has to start it.
             timer = [TIMER, "-q", "-f", "%M", "-o", told.name] if TIMER.exists() else []
-            child = subprocess.Popen([*timer, program, *words], stdin=stdin, stdout=stdout)
+            child = subprocess.Popen([*timer, program, *words], stdin=stdin, stdout=stdout, preexec_fn=before)
             _, ended, usage = os.wait4(child.pid, 0)
             status = os.waitstatus_to_exitcode(ended)
             seconds = usage.ru_utime + usage.ru_stime
