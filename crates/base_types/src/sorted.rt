@@ -11,6 +11,7 @@ ghost use Rattle.std.specs.Cmp.Lexicographic.{slice_cmp};
 ghost use Rattle.std.specs.Str.{bytes_eq};
 ghost use Rattle.base_types.specs.Order.{is_before, each_next};
 
+use crate::shared::Shared;
 use std::cmp::Ordering;
 
 /// What is kept under a text.
@@ -19,6 +20,14 @@ pub trait Keyed {
 
     fn key(&self) -> &str
         ensures { result.now ≡ text self.now };
+}
+
+impl<T: Keyed> Keyed for Shared<T> {
+    ghost text = { λ s. T.text s };
+
+    fn key(&self) -> &str {
+        self.get().key()
+    }
 }
 
 /// The index of the entry of that key, or the index at which one would stand, found by halving.

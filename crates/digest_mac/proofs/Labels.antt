@@ -12,7 +12,7 @@ use Rattle.base64.proofs.EngineFacts.{decode_of-encode_of, front_bytes}
 use Rattle.base64.specs.declared.decode.DecodeError.{DecodeError}
 use Rattle.base64.proofs.RoundTrip.{length-encode_symbols}
 use Rattle.sha2.specs.Sha256.{sha256, digest_bytes as words_of_32}
-use Rattle.sha2.specs.Sha512.{sha384, digest_bytes as words_of_64}
+use Rattle.sha2.specs.Sha512.{sha384, final_hash, initial_hash_384, digest_bytes as words_of_64}
 use Rattle.digest_mac.specs.Digests.{digest, digest_size, keyed_digest}
 use Rattle.digest_mac.specs.Labels.{multibase_text}
 use Rattle.digest_mac.specs.declared.hash.Hash.{Hash}
@@ -50,11 +50,6 @@ bytes_joined [] other a b i = b i
 bytes_joined (x ∷ one) other a b zero = a 0
 bytes_joined (x ∷ one) other a b (suc i) = bytes_joined one other (λ (k : ℕ). a (suc k)) b i
 
--- the first of bytes
-first_bytes : (count : ℕ) (bytes : List ℕ) → IsBytes bytes → IsBytes (take count bytes)
-first_bytes count bytes are =
-    front_bytes (take count bytes) (drop count bytes) (subst IsBytes (sym (take-append-drop count bytes)) are)
-
 -- what is left of a division by 256
 mod_below : (number : ℕ) → number % 256 < 256
 mod_below number = omega arith
@@ -90,7 +85,10 @@ bytes_of_64 words (suc count) =
 pub bytes-digest : (hash : Hash) (text : List ℕ) → IsBytes (digest hash text)
 unfolding digest sha256 sha384
 bytes-digest Sha256 text = bytes_of_32 _ 8
-bytes-digest Sha384 text = first_bytes 48 _ (bytes_of_64 _ 8)
+bytes-digest Sha384 text =
+    let words : List ℕ = final_hash initial_hash_384 text in
+    let bytes : List ℕ = words_of_64 words 8 in
+    front_bytes (take 48 bytes) (drop 48 bytes) (subst IsBytes (sym (take-append-drop 48 bytes)) (bytes_of_64 words 8))
 
 -- so is a keyed digest
 pub bytes-keyed_digest : (hash : Hash) (key text : List ℕ) → IsBytes (keyed_digest hash key text)

@@ -1,3 +1,4 @@
+pub mod Absolute
 pub mod Allowed
 pub mod Colon
 pub mod Cuts

@@ -1,5 +1,5 @@
 -- The five components of a URI or IRI reference, and how they make a text again.
-use Rattle.std.specs.Prelude.{ℕ, ◌+◌, ◌-◌, take, List, [], ◌∷◌, ◌++◌, ◌≡◌, Bool, false, ◌&&◌, ◌==◌, if◌then◌else◌, Option, Some, None, codes, length, drop, option_map, unwrap_or, is_some, IsTrue}
+use Rattle.std.specs.Prelude.{ℕ, ◌+◌, ◌-◌, take, List, [], ◌∷◌, ◌++◌, ◌≡◌, Bool, false, ◌&&◌, ◌==◌, if◌then◌else◌, Option, Some, None, codes, length, drop, option_map, unwrap_or, is_some, is_none, IsTrue}
 use Rattle.iri_ref.specs.Characters.{first_forbidden, is_scheme}
 use Rattle.iri_ref.specs.declared.places.Span.{Span}
 use Rattle.iri_ref.specs.declared.places.Parts.{Parts}
@@ -106,6 +106,10 @@ spans c =
 -- an IRI with a scheme: the base of a resolution is one. -- RFC 3986, 5.1
 abbrev pub IsAbsolute : List ℕ → Type 0
 IsAbsolute text = IsTrue (has_scheme text) × (first_forbidden text ≡ None)
+
+-- the test of it
+abbrev pub is_absolute : List ℕ → Bool
+is_absolute text = has_scheme text && is_none (first_forbidden text)
 
 -- the bytes of a span
 abbrev pub cut_out : List ℕ → Span → List ℕ

@@ -1,9 +1,9 @@
 //! Laws of the definitions, and rows of the standard that they compute.
-ghost use Rattle.std.specs.Prelude.{ℕ, List, ◌≡◌, ◌++◌, [], codes, filter};
+ghost use Rattle.std.specs.Prelude.{ℕ, List, ◌≡◌, ◌↔◌, ◌++◌, [], true, codes, filter};
 ghost use Rattle.std.specs.List.{range_with_len};
 ghost use Rattle.iri_ref.specs.Characters.{is_forbidden, is_letter, is_scheme_character};
 ghost use Rattle.iri_ref.specs.Buffers.{Removes};
-ghost use Rattle.iri_ref.specs.Components.{components, components_at, recompose, spans};
+ghost use Rattle.iri_ref.specs.Components.{IsAbsolute, is_absolute, components, components_at, recompose, spans};
 ghost use Rattle.iri_ref.specs.Resolution.{remove_dot_segments, resolution};
 
 /// The components of a text make the text again.
@@ -14,6 +14,11 @@ pub fn recompose_gives_back()
 /// The spans of a text's components cut exactly these components out of it.
 pub fn spans_cut_the_components()
     ensures { (text : List ℕ) → components_at text (spans (components text)) ≡ components text }
+{}
+
+/// `is_absolute` is the test of `IsAbsolute`.
+pub fn the_test_of_absolute_iris_is_exact()
+    ensures { (text : List ℕ) → (is_absolute text ≡ true) ↔ IsAbsolute text }
 {}
 
 /// The removal of dot segments by segments gives what the loop over an input and an output buffer

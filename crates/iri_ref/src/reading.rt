@@ -2,7 +2,7 @@
 ghost use Rattle.std.specs.Prelude.{◌≡◌, ◌↔◌, ◌<◌, ◌^◌, ◌+◌, option_map, length, IsTrue, IfErr, IfOk, OnOk, None, Some};
 ghost use Rattle.std.specs.Option.{option_copied};
 ghost use Rattle.iri_ref.specs.Characters.{first_forbidden};
-ghost use Rattle.iri_ref.specs.Components.{IsAbsolute, components, length_with, recompose, span_after, spans};
+ghost use Rattle.iri_ref.specs.Components.{IsAbsolute, components, is_absolute, length_with, recompose, span_after, spans};
 ghost use Rattle.iri_ref.specs.Internal.Pieces.{texts};
 
 use crate::fault::BadAt;
@@ -92,7 +92,8 @@ pub fn parse(text: &str) -> Result<Parts, BadAt>
 
 /// Whether `text` has a scheme and no forbidden character. It takes no memory.
 pub fn is_absolute(text: &str) -> bool
-    ensures { IsTrue result ↔ IsAbsolute text.now }
+    ensures exact { IsTrue result ↔ IsAbsolute text.now }
+    ensures test { result ≡ is_absolute text.now }
 {
     let (scheme, _) = split_scheme(text);
     scheme.is_some() && forbidden_at(text).is_none()

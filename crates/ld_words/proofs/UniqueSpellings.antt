@@ -1,5 +1,5 @@
 -- No two words of a kind are spelled alike, since each is word_of by its spelling.
-use Rattle.std.proofs.Common.{◌≡◌, ℕ, List as ListOf, [], ◌∷◌, Bool, cond, Option, Some, None, ◌↔◌, ◌≢◌, ◌<◌, ◌+◌, true, false, length, get_or, drop, drop-cons, add-one, refl, sym, ap, ◌∙◌, ◌==◌, ◌&&◌, not, codes, arith}
+use Rattle.std.proofs.Common.{◌≡◌, ℕ, List as ListOf, [], ◌∷◌, Bool, cond, find, Option, Some, None, ◌↔◌, ◌≢◌, ◌<◌, ◌+◌, true, false, length, get_or, drop, drop-cons, add-one, refl, sym, ap, ◌∙◌, ◌==◌, ◌&&◌, not, codes, arith}
 use Rattle.std.proofs.lemmas.Slice.Eq.{bytes_eq-Decides}
 use Rattle.std.specs.Str.{bytes_eq}
 use Rattle.ld_words.specs.declared.keyword_table.LdKeyword.{LdKeyword}
@@ -8,23 +8,18 @@ use Rattle.ld_words.specs.declared.code_table.Code.{Code}
 use Rattle.ld_words.specs.declared.code_table.Code.TheVariants.{InvalidContextNullification, LoadingRemoteContextFailed, InvalidRemoteContext, ContextOverflow, InvalidLocalContext, InvalidVersionValue, InvalidImportValue, InvalidContextEntry, InvalidBaseIri, InvalidVocabMapping, InvalidDefaultLanguage, InvalidBaseDirection, InvalidPropagateValue, InvalidProtectedValue, CyclicIriMapping, InvalidTermDefinition, KeywordRedefinition, InvalidIriMapping, InvalidReverseProperty, InvalidKeywordAlias, InvalidPrefixValue, InvalidTypeMapping, InvalidContainerMapping, InvalidLanguageMapping, InvalidNestValue, ProtectedTermRedefinition, CollidingKeywords, InvalidIdValue, InvalidTypeValue, InvalidIndexValue, InvalidIncludedValue, InvalidReverseValue, InvalidReversePropertyMap, InvalidValueObject, InvalidReversePropertyValue, InvalidSetOrListObject, InvalidLanguageMapValue, InvalidLanguageTaggedString, InvalidTypedValue, InvalidValueObjectValue, InvalidLanguageTaggedValue, IriConfusedWithPrefix, UnmappedProperty, BlankPredicate, NotAnAbsoluteIri, StrayKeyword, LooseValue, NumberNotCarried, TextNotCarried}
 use Rattle.std.specs.List.{list_all, starts_with}
 use Rattle.std.specs.Char.{is_ascii_alphabetic}
-use Rattle.ld_words.specs.Spellings.{keyword_text, code_text, has_keyword_form, is_empty}
+use Rattle.ld_words.specs.Spellings.{keywords, keyword_of, keyword_text, code_text, has_keyword_form, is_empty}
 
 -- the first of the words that is spelled so
 abbrev pub word_of : {K : Type 0} → (K → ListOf ℕ) → ListOf K → ListOf ℕ → Option K
-word_of spell [] text = None
-word_of spell (k ∷ ks) text = cond (bytes_eq (spell k) text) (Some k) (word_of spell ks text)
+word_of spell ks text = find (λ k. bytes_eq (spell k) text) ks
 
 -- words that are found by their spellings differ in them
 differ : {K : Type 0} (spell : K → ListOf ℕ) (ks : ListOf K) → ((k : K) → word_of spell ks (spell k) ≡ Some k) → (j k : K) → spell j ≡ spell k → j ≡ k
 differ spell ks back j k e = let same : Some j ≡ Some k = sym (back j) ∙ ap (word_of spell ks) e ∙ back k in cc
 
--- every keyword, in the order of the spellings
-abbrev pub all_keywords : ListOf LdKeyword
-all_keywords = Base ∷ Container ∷ Context ∷ Direction ∷ Graph ∷ Id ∷ Import ∷ Included ∷ Index ∷ Json ∷ Language ∷ List ∷ Nest ∷ Absent ∷ Prefix ∷ Propagate ∷ Protected ∷ Reverse ∷ Set ∷ Kind ∷ Value ∷ Version ∷ Vocab ∷ []
-
 -- each keyword is found by its spelling
-keyword_back : (k : LdKeyword) → word_of keyword_text all_keywords (keyword_text k) ≡ Some k
+keyword_back : (k : LdKeyword) → word_of keyword_text keywords (keyword_text k) ≡ Some k
 keyword_back Base = refl
 keyword_back Container = refl
 keyword_back Context = refl
@@ -51,7 +46,7 @@ keyword_back Vocab = refl
 
 -- keywords that are spelled alike are one
 pub keyword_text_differs : (j k : LdKeyword) → keyword_text j ≡ keyword_text k → j ≡ k
-keyword_text_differs = differ keyword_text all_keywords keyword_back
+keyword_text_differs = differ keyword_text keywords keyword_back
 
 -- every code
 abbrev pub all_codes : ListOf Code
@@ -132,13 +127,26 @@ is_spelled spell [] text k e = cc
 is_spelled spell (j ∷ ks) text k e = by_head spell j ks text k (is_spelled spell ks text k) (bytes_eq (spell j) text) refl e
 
 -- a text is a keyword where the search finds it
-pub keyword_some : (text : ListOf ℕ) (r : Option LdKeyword) → word_of keyword_text all_keywords text ≡ r → (k : LdKeyword) → (r ≡ Some k) ↔ (text ≡ keyword_text k)
-keyword_some text r e k = (λ s. is_spelled keyword_text all_keywords text k (e ∙ s), λ s. sym e ∙ ap (word_of keyword_text all_keywords) s ∙ keyword_back k)
+pub keyword_some : (text : ListOf ℕ) (r : Option LdKeyword) → word_of keyword_text keywords text ≡ r → (k : LdKeyword) → (r ≡ Some k) ↔ (text ≡ keyword_text k)
+keyword_some text r e k = (λ s. is_spelled keyword_text keywords text k (e ∙ s), λ s. sym e ∙ ap (word_of keyword_text keywords) s ∙ keyword_back k)
+
+-- a text has at most one keyword
+pub keyword_of-exact : (text : ListOf ℕ) (k : LdKeyword) → (keyword_of text ≡ Some k) ↔ (text ≡ keyword_text k)
+keyword_of-exact text k = keyword_some text (keyword_of text) refl k
+
+-- what says of each keyword whether a text spells it says which one it is
+pub keyword_found : (text : ListOf ℕ) (r : Option LdKeyword) → ((k : LdKeyword) → (r ≡ Some k) ↔ (text ≡ keyword_text k)) → r ≡ keyword_of text
+keyword_found text (Some k) exact = sym ((keyword_of-exact text k).1 ((exact k).0 refl))
+keyword_found text None exact = go (keyword_of text) refl
+  where
+    go : (o : Option LdKeyword) → keyword_of text ≡ o → None ≡ o
+    go None is = refl
+    go (Some k) is = let found : None ≡ Some k = (exact k).1 ((keyword_of-exact text k).0 is) in absurd (cc)
 
 -- a text is no keyword where the search finds none
-pub keyword_none : (text : ListOf ℕ) (r : Option LdKeyword) → word_of keyword_text all_keywords text ≡ r → (r ≡ None) ↔ ((k : LdKeyword) → text ≢ keyword_text k)
-keyword_none text None e = (λ n k s. let other : word_of keyword_text all_keywords text ≡ Some k = ap (word_of keyword_text all_keywords) s ∙ keyword_back k in cc, λ h. refl)
-keyword_none text (Some k) e = (λ n. cc, λ h. absurd (h k (is_spelled keyword_text all_keywords text k e)))
+pub keyword_none : (text : ListOf ℕ) (r : Option LdKeyword) → word_of keyword_text keywords text ≡ r → (r ≡ None) ↔ ((k : LdKeyword) → text ≢ keyword_text k)
+keyword_none text None e = (λ n k s. let other : word_of keyword_text keywords text ≡ Some k = ap (word_of keyword_text keywords) s ∙ keyword_back k in cc, λ h. refl)
+keyword_none text (Some k) e = (λ n. cc, λ h. absurd (h k (is_spelled keyword_text keywords text k e)))
 
 -- each keyword has the form of one
 pub keyword_text-form : (k : LdKeyword) → has_keyword_form (keyword_text k) ≡ true
@@ -193,13 +201,13 @@ keyword_text-sign Version = refl
 keyword_text-sign Vocab = refl
 
 -- so a text that does not is no keyword, by what is found
-none_of : (text : ListOf ℕ) (r : Option LdKeyword) → word_of keyword_text all_keywords text ≡ r → starts_with ◌==◌ text (codes "@") ≡ false → word_of keyword_text all_keywords text ≡ None
+none_of : (text : ListOf ℕ) (r : Option LdKeyword) → word_of keyword_text keywords text ≡ r → starts_with ◌==◌ text (codes "@") ≡ false → word_of keyword_text keywords text ≡ None
 none_of text None e s = e
-none_of text (Some k) e s = let same : text ≡ keyword_text k = is_spelled keyword_text all_keywords text k e in let sign : starts_with ◌==◌ text (codes "@") ≡ true = rw same (keyword_text-sign k) in absurd (cc (sign, s))
+none_of text (Some k) e s = let same : text ≡ keyword_text k = is_spelled keyword_text keywords text k e in let sign : starts_with ◌==◌ text (codes "@") ≡ true = rw same (keyword_text-sign k) in absurd (cc (sign, s))
 
 -- so a text that does not is no keyword
-pub no_sign : (text : ListOf ℕ) → starts_with ◌==◌ text (codes "@") ≡ false → word_of keyword_text all_keywords text ≡ None
-no_sign text e = none_of text (word_of keyword_text all_keywords text) refl e
+pub no_sign : (text : ListOf ℕ) → starts_with ◌==◌ text (codes "@") ≡ false → word_of keyword_text keywords text ≡ None
+no_sign text e = none_of text (word_of keyword_text keywords text) refl e
 
 -- letters are one or more where a byte is there
 pub some_letters : (bytes : ListOf ℕ) (all : Bool) → 0 < length bytes → all ≡ list_all is_ascii_alphabetic bytes → all ≡ (not (is_empty bytes) && list_all is_ascii_alphabetic bytes)

@@ -1,7 +1,8 @@
 -- The spelling of each keyword and of each error code: the one table of both.
 -- And the form of a keyword.
-use Rattle.std.specs.Prelude.{ℕ, List as ListOf, [], ◌∷◌, Bool, true, false, not, ◌&&◌, ◌==◌, codes}
+use Rattle.std.specs.Prelude.{ℕ, List as ListOf, [], ◌∷◌, Bool, true, false, not, ◌&&◌, ◌==◌, Option, find, codes}
 use Rattle.std.specs.List.{list_all}
+use Rattle.std.specs.Str.{bytes_eq}
 use Rattle.std.specs.Char.{is_ascii_alphabetic}
 use Rattle.ld_words.specs.declared.keyword_table.LdKeyword.{LdKeyword}
 use Rattle.ld_words.specs.declared.keyword_table.LdKeyword.TheVariants.{Base, Container, Context, Direction, Graph, Id, Import, Included, Index, Json, Language, List, Nest, Absent, Prefix, Propagate, Protected, Reverse, Set, Kind, Value, Version, Vocab}
@@ -33,6 +34,17 @@ keyword_text Kind = codes "@type"
 keyword_text Value = codes "@value"
 keyword_text Version = codes "@version"
 keyword_text Vocab = codes "@vocab"
+
+-- every keyword, each once, in the order of the spellings. -- JSON-LD 1.1, 1.7
+abbrev pub keywords : ListOf LdKeyword
+keywords =
+    Base ∷ Container ∷ Context ∷ Direction ∷ Graph ∷ Id ∷ Import ∷ Included ∷ Index ∷ Json
+    ∷ Language ∷ List ∷ Nest ∷ Absent ∷ Prefix ∷ Propagate ∷ Protected ∷ Reverse ∷ Set ∷ Kind
+    ∷ Value ∷ Version ∷ Vocab ∷ []
+
+-- the keyword that a text spells, where it spells one
+abbrev pub keyword_of : ListOf ℕ → Option LdKeyword
+keyword_of text = find (λ k. bytes_eq (keyword_text k) text) keywords
 
 -- whether a text is empty
 abbrev pub is_empty : ListOf ℕ → Bool

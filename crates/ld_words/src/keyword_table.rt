@@ -2,7 +2,7 @@
 ghost use Rattle.std.specs.Prelude.{◌≡◌, ◌↔◌, ◌≢◌, ◌&&◌, not, Some, None};
 ghost use Rattle.std.specs.List.{list_all};
 ghost use Rattle.std.specs.Char.{is_ascii_alphabetic};
-ghost use Rattle.ld_words.specs.Spellings.{has_keyword_form, is_empty, keyword_text};
+ghost use Rattle.ld_words.specs.Spellings.{has_keyword_form, is_empty, keyword_of, keyword_text};
 
 /// A keyword of JSON-LD 1.1 (JSON-LD 1.1, section 1.7), in the order of the spellings.
 ///
@@ -119,6 +119,14 @@ impl LdKeyword {
 
 /// The keyword that is spelled `text`; `None` exactly where `text` is no keyword.
 pub fn keyword(text: &str) -> Option<LdKeyword>
+    ensures some { (k : LdKeyword) → (result ≡ Some k) ↔ (text.now ≡ keyword_text k) }
+    ensures none { (result ≡ None) ↔ ((k : LdKeyword) → text.now ≢ keyword_text k) }
+    ensures found { result ≡ keyword_of text.now }
+{
+    find_keyword(text)
+}
+
+fn find_keyword(text: &str) -> Option<LdKeyword>
     ensures some { (k : LdKeyword) → (result ≡ Some k) ↔ (text.now ≡ keyword_text k) }
     ensures none { (result ≡ None) ↔ ((k : LdKeyword) → text.now ≢ keyword_text k) }
 {

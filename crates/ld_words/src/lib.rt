@@ -15,4 +15,6 @@ mod tests;
 
 pub use code_table::Code;
 pub use keyword_table::{LdKeyword, is_keyword_form, keyword};
-pub use laws::{code_spellings_differ, keyword_spellings_differ, keywords_have_their_form};
+pub use laws::{
+    code_spellings_differ, keyword_of_is_exact, keyword_spellings_differ, keywords_have_their_form,
+};

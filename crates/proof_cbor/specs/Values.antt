@@ -2,8 +2,7 @@
 -- to 3.5.3 and 3.5.7 to 3.5.8).
 use Rattle.std.specs.Prelude.{◌≡◌, ℕ, ◌≤◌, List, [], ◌∷◌, ◌++◌, length, map, Bool, true, ◌==◌}
 use Rattle.std.specs.List.{list_all}
-use Rattle.base64.specs.Engines.{url_safe_no_pad}
-use Rattle.base64.specs.GeneralPurpose.{encode_of, IsBytes}
+use Rattle.base64.specs.GeneralPurpose.{IsBytes}
 use Rattle.cbor_core.specs.declared.item.Item.{Item}
 use Rattle.cbor_core.specs.declared.item.Item.TheVariants as v
 use Rattle.cbor_core.specs.declared.item.Pair.{Pair}
@@ -13,6 +12,7 @@ use Rattle.base_types.specs.Order.{rise}
 use Rattle.proof_cbor.specs.declared.value.BaseValue.{BaseValue}
 use Rattle.proof_cbor.specs.declared.value.DerivedValue.{DerivedValue}
 use Rattle.proof_cbor.specs.declared.value.MapEntry.{MapEntry}
+pub use Rattle.digest_mac.specs.Labels.{multibase_text}
 
 -- the three bytes before a base value (3.5.2)
 abbrev pub base_header : List ℕ
@@ -21,11 +21,6 @@ base_header = 0xd9 ∷ 0x5d ∷ 0x00 ∷ []
 -- the three bytes before a derived value (3.5.7)
 abbrev pub derived_header : List ℕ
 derived_header = 0xd9 ∷ 0x5d ∷ 0x01 ∷ []
-
--- the text of bytes: `u`, and base64url without padding (RFC 4648, section 5; Controlled
--- Identifiers 1.0, 2.4)
-abbrev pub multibase_text : List ℕ → List ℕ
-multibase_text bytes = 117 ∷ encode_of url_safe_no_pad bytes
 
 -- the text is that of these bytes; each number of the list is one byte
 abbrev pub IsText : List ℕ → List ℕ → Type 0

@@ -1,7 +1,0 @@
-use Rattle.std.proofs.Common.{◌≡◌, drop}
-use Rattle.ld_words.specs.Spellings.{keyword_text}
-use Rattle.ld_words.proofs.UniqueSpellings.{word_of, all_keywords}
-use Rattle.ld_words.proofs.keyword_table.keyword.Given as goal
-
-abbrev pub invariant-loop-known : goal.invariant-loop-known
-invariant-loop-known l = (l.known-items ≡ all_keywords) × (word_of keyword_text (drop l.known-index l.known-items) l.text ≡ word_of keyword_text all_keywords l.text)
