@@ -1,4 +1,4 @@
--- The words of the commands, and what a yes of a run says.
+-- The words of the commands, which of them sign nothing, and what a yes of a run says.
 use Rattle.std.proofs.Common.{◌≡◌, ◌<◌, ◌≤◌, ℕ, List, [], ◌∷◌, length, get_or, Bool, IsTrue, true, false, nat_eq, refl, sym, ap, ◌∙◌, inl, inr, codes, arith}
 use Rattle.std.specs.Str.{bytes_eq}
 use Rattle.std.proofs.lemmas.Slice.Eq.{bytes_eq-Decides}
@@ -6,13 +6,13 @@ use Rattle.std.proofs.lemmas.Bool.{true≢false}
 use Rattle.std.proofs.lemmas.Bool.Decides.{nat_tests}
 use Rattle.vc_io.specs.Bytes.{SinkMeaning, SourceMeaning}
 use Rattle.key_device.specs.Devices.{Acceptance, DeviceMeaning}
-use Rattle.vc_cli.specs.declared.reply.Reply.{Reply}
-use Rattle.vc_cli.specs.declared.reply.Reply.TheVariants as reply
+use Rattle.vc_session.specs.declared.reply.Reply.{Reply}
+use Rattle.vc_session.specs.declared.reply.Reply.TheVariants as reply
+use Rattle.vc_session.specs.Answers.{AnswersRequest, HasSoundReply, HasSoundYes, IssueAnswers, Signs, StatementsAnswers, VerifyAnswers}
 use Rattle.vc_cli.specs.declared.status.Status.{Status}
 use Rattle.vc_cli.specs.declared.status.Status.TheVariants as status
-use Rattle.vc_cli.specs.Replies.{status_of}
-use Rattle.vc_cli.specs.Answers.{Answers, AnswersRequest, Delivers, HasSoundYes, IsCommand, IsIssueCommand, IsStatements, IsVerifyCommand, IssueAnswers, StatementsAnswers, VerifyAnswers}
-use Rattle.vc_cli.specs.Internal.Stages.{HasSoundReply}
+use Rattle.vc_cli.specs.Commands.{Answers, IsCommand, IsIssueCommand, IsStatements, IsVerifyCommand}
+use Rattle.vc_cli.specs.Delivery.{Delivers, status_of}
 
 -- ---- one word
 
@@ -90,6 +90,20 @@ module _ (words : List (List ℕ)) (source source_after : SourceMeaning) (before
 -- the usage line answers words that are no command
 pub answers_usage : (words : List (List ℕ)) (source source_after : SourceMeaning) (before after : DeviceMeaning) → (IsStatements words → ⊥) → (IsIssueCommand words → ⊥) → (IsVerifyCommand words → ⊥) → Answers words source source_after before after reply.Usage
 answers_usage words source source_after before after a b c = inr (inr (inr (no_command words a b c, refl)))
+
+-- ---- what a device has signed
+
+-- the command `statements` signs nothing
+pub statements_sign : (source source_after : SourceMeaning) (device : DeviceMeaning) (r : Reply) → AnswersRequest StatementsAnswers source source_after r → Signs source device device r
+statements_sign source source_after device (reply.Document line) h = absurd h.2.2
+statements_sign source source_after device reply.Memory h = inl refl
+statements_sign source source_after device other h = refl
+
+-- the command `verify` signs nothing
+pub verify_signs : (source source_after : SourceMeaning) (before after : DeviceMeaning) (r : Reply) → AnswersRequest (VerifyAnswers before after) source source_after r → after.log ≡ before.log → Signs source before after r
+verify_signs source source_after before after (reply.Document line) h same = absurd h.2.2
+verify_signs source source_after before after reply.Memory h same = inl same
+verify_signs source source_after before after other h same = same
 
 -- ---- a yes
 

@@ -1,14 +1,1 @@
-pub mod FlatTexts
-pub mod Looks
-pub mod Putting
-pub mod Tables
-pub mod Parting
-pub mod Printing
-pub mod Flatness
-pub mod Drafting
-pub mod Verdicts
-pub mod StageReplies
 pub mod CommandWords
-pub mod IssuedProofs
-pub mod ReplyTexts
-pub mod WellPlaced

@@ -1,7 +1,2 @@
-pub mod Replies
-pub mod ReplyTrees
-pub mod Requests
-pub mod Issuing
-pub mod Verifying
-pub mod Answers
-pub mod Internal
+pub mod Commands
+pub mod Delivery

@@ -5,28 +5,15 @@
 //! ledger that is made anew in each run of a command that signs or checks.
 #![tactic(auto)]
 
-mod commands;
-mod draft;
-mod input;
-mod issuing;
-mod keys;
-mod lines;
-mod options;
-mod reply;
-mod reply_lines;
-mod requests;
 mod run;
 mod status;
-mod tasks;
 #[cfg(test)]
 mod tests;
-mod verifying;
 #[cfg(test)]
 mod watched_device;
 
 use key_device::{KeyName, LedgerDevice};
 use nquads::{Memory, Text};
-pub use reply::Reply;
 use run::deliver;
 pub use run::{run, run_alone, uses_device};
 pub use status::Status;
@@ -35,6 +22,7 @@ use std::process::ExitCode;
 use std::rt::Env;
 use std::{env, io};
 use vc_io::{ReaderSource, Sink, Source, WriterSink};
+use vc_session::Reply;
 
 fn main(rt: HostRuntime) -> ExitCode {
     let mut source = ReaderSource::new(rt.stdin());

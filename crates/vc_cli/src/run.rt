@@ -2,17 +2,17 @@
 
 ghost use Rattle.std.specs.Prelude.{◌≡◌, ◌↔◌, ◌⊎◌, [], ◌∷◌, IsTrue};
 ghost use Rattle.key_device.specs.Devices.{DeviceMeaning, MeansSame};
-ghost use Rattle.vc_cli.specs.declared.reply.Reply.{Reply as AnyReply};
-ghost use Rattle.vc_cli.specs.Answers.{Answers, Delivers, HasSoundYes, IsCommand, IsIssueCommand, IsVerifyCommand, Keeps, Signs};
-ghost use Rattle.vc_cli.specs.Internal.Stages.{HasSoundReply};
+ghost use Rattle.vc_session.specs.declared.reply.Reply.{Reply as AnyReply};
+ghost use Rattle.vc_session.specs.Answers.{HasSoundReply, HasSoundYes, Keeps, Signs};
+ghost use Rattle.vc_cli.specs.Commands.{Answers, IsCommand, IsIssueCommand, IsVerifyCommand};
+ghost use Rattle.vc_cli.specs.Delivery.{Delivers};
 
-use crate::commands;
-use crate::reply::Reply;
 use crate::status::Status;
 use key_device::KeyDevice;
 use nquads::Text;
 use std::alloc::Global;
 use vc_io::{Sink, Source};
+use vc_session::Reply;
 
 /// Answers the command that the words name, from `source` to `sink`, with a key device.
 ///
@@ -99,10 +99,10 @@ fn reply_to<S: Source, D: KeyDevice>(
         → HasSoundReply (S.means source.old) (D.means device.old).accepts result }
 {
     if is_word(words, "issue") {
-        return commands::issue(alloc, source, device);
+        return vc_session::issue(alloc, source, device);
     }
     if is_word(words, "verify") {
-        return commands::verify(alloc, source, device);
+        return vc_session::verify(alloc, source, device);
     }
     reply_alone(alloc, words, source)
 }
@@ -117,7 +117,7 @@ fn reply_alone<S: Source>(alloc: Global, words: &[Text], source: &mut S) -> Repl
     ensures unread { (IsCommand words.now → ⊥) → source.new ≡ source.old }
 {
     if is_word(words, "statements") {
-        return commands::statements(alloc, source);
+        return vc_session::statements(alloc, source);
     }
     Reply::Usage
 }
@@ -137,7 +137,7 @@ pub(crate) fn deliver<K: Sink>(reply: &Reply, sink: &mut K) -> Status
     ensures { Delivers reply.now result (K.means sink.old) (K.means sink.new) }
 {
     match vc_io::write_all(sink, reply.as_bytes()) {
-        Ok(()) => reply.status(),
+        Ok(()) => Status::of(reply),
         Err(_) => Status::WriteFault,
     }
 }

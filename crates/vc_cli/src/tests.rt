@@ -1,7 +1,6 @@
 //! The program over worked rows: each has a name, the one edit of a request, the status and the line of
 //! the reply. The lines, digests and proof values were made apart from this program.
 
-use crate::reply::Reply;
 use crate::run::run;
 use crate::status::Status;
 use crate::watched_device::{FailingDevice, WatchedDevice};
@@ -10,6 +9,7 @@ use nquads::{Memory, Text};
 use std::alloc::Global;
 use std::test::Fail;
 use vc_io::{MemorySink, MemorySource};
+use vc_session::Reply;
 
 /// A row: its name, what it puts in place of what, how the run ends, and what it writes but for LF.
 type Row = (
@@ -649,7 +649,7 @@ fn replies_without_memory(rt: HostRuntime) -> Result<(), Fail> {
         (Reply::ReadFault, 5, r#"{"refused":{"name":"ReadFault"}}"#),
     ];
     for (reply, status, text) in cases {
-        assert_eq!(rt; reply.status() as u8, status, "at {text}");
+        assert_eq!(rt; Status::of(&reply) as u8, status, "at {text}");
         assert_eq!(rt;
             reply.as_bytes(),
             line(rt.alloc(), text)?.as_slice(),

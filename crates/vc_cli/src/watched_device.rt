@@ -51,13 +51,13 @@ impl<D: KeyDevice> KeyDevice for WatchedDevice<D> {
 
     ghost exact_means = { λ w exact. D.exact_means w.device exact };
 
-    #[tactic(auto, using(crate::proofs::StageReplies::watching))]
+    #[tactic(auto, using(vc_session::proofs::OutcomeReplies::means_itself))]
     fn sign(&mut self, key: &KeyName, bytes: &[u8]) -> Result<Signature, DeviceError> {
         note(self.alloc, &mut self.calls, "sign", key, bytes)?;
         self.device.sign(key, bytes)
     }
 
-    #[tactic(auto, using(crate::proofs::StageReplies::watching))]
+    #[tactic(auto, using(vc_session::proofs::OutcomeReplies::means_itself))]
     fn check(
         &mut self,
         key: &KeyName,
@@ -68,13 +68,13 @@ impl<D: KeyDevice> KeyDevice for WatchedDevice<D> {
         self.device.check(key, bytes, signature)
     }
 
-    #[tactic(auto, using(crate::proofs::StageReplies::watching))]
+    #[tactic(auto, using(vc_session::proofs::OutcomeReplies::means_itself))]
     fn fresh_key(&mut self) -> Result<KeyName, DeviceError> {
         self.calls.push_str("key\n")?;
         self.device.fresh_key()
     }
 
-    #[tactic(auto, using(crate::proofs::StageReplies::watching))]
+    #[tactic(auto, using(vc_session::proofs::OutcomeReplies::means_itself))]
     fn fresh_secret(&mut self) -> Result<[u8; 32], DeviceError> {
         self.calls.push_str("secret\n")?;
         self.device.fresh_secret()
@@ -117,12 +117,12 @@ impl KeyDevice for FailingDevice {
 
     ghost exact_means = { λ d exact. absurd (false≢true exact) };
 
-    #[tactic(auto, using(crate::proofs::StageReplies::watching))]
+    #[tactic(auto, using(vc_session::proofs::OutcomeReplies::means_itself))]
     fn sign(&mut self, _key: &KeyName, _bytes: &[u8]) -> Result<Signature, DeviceError> {
         Err(self.fail())
     }
 
-    #[tactic(auto, using(crate::proofs::StageReplies::watching))]
+    #[tactic(auto, using(vc_session::proofs::OutcomeReplies::means_itself))]
     fn check(
         &mut self,
         _key: &KeyName,
@@ -132,12 +132,12 @@ impl KeyDevice for FailingDevice {
         Err(self.fail())
     }
 
-    #[tactic(auto, using(crate::proofs::StageReplies::watching))]
+    #[tactic(auto, using(vc_session::proofs::OutcomeReplies::means_itself))]
     fn fresh_key(&mut self) -> Result<KeyName, DeviceError> {
         Err(self.fail())
     }
 
-    #[tactic(auto, using(crate::proofs::StageReplies::watching))]
+    #[tactic(auto, using(vc_session::proofs::OutcomeReplies::means_itself))]
     fn fresh_secret(&mut self) -> Result<[u8; 32], DeviceError> {
         Err(self.fail())
     }

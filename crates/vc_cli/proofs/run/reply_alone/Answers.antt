@@ -1,7 +1,6 @@
 use Rattle.std.proofs.Common.{inl}
-use Rattle.vc_cli.specs.Answers.{IsStatements}
-use Rattle.vc_cli.proofs.StageReplies.{statements_sign}
-use Rattle.vc_cli.proofs.CommandWords.{answers_statements, answers_usage, is_told, not_told}
+use Rattle.vc_cli.specs.Commands.{IsStatements}
+use Rattle.vc_cli.proofs.CommandWords.{answers_statements, answers_usage, is_told, not_told, statements_sign}
 use Rattle.vc_cli.proofs.run.reply_alone.Goals as goal
 
 pub returns-then-is_word-clause-answer : goal.returns-then-is_word-clause-answer

@@ -1,9 +1,8 @@
 use Rattle.std.proofs.Common.{inl, inr}
-use Rattle.vc_cli.specs.Answers.{IsIssueCommand, IsVerifyCommand}
-use Rattle.vc_cli.proofs.StageReplies.{verify_signs}
-use Rattle.vc_cli.proofs.CommandWords.{answers_issue, answers_verify, is_told, issue_not_verify, not_told}
+use Rattle.vc_cli.specs.Commands.{IsIssueCommand, IsVerifyCommand}
+use Rattle.vc_cli.proofs.CommandWords.{answers_issue, answers_verify, is_told, issue_not_verify, not_told, verify_signs}
 use Rattle.vc_cli.proofs.run.reply_to.Goals as goal
-use Rattle.vc_cli.proofs.IssuedProofs.{keeps_self, keeps_same}
+use Rattle.vc_session.proofs.IssuedProofs.{keeps_self, keeps_same}
 
 -- ---- the word `issue`
 

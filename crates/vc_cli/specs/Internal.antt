@@ -1,4 +1,0 @@
-pub mod Drafts
-pub mod Parts
-pub mod Stages
-pub mod Tasks

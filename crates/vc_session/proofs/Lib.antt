@@ -1,0 +1,13 @@
+pub mod FlatTexts
+pub mod Looks
+pub mod Putting
+pub mod Tables
+pub mod Parting
+pub mod Printing
+pub mod Flatness
+pub mod Drafting
+pub mod Verdicts
+pub mod OutcomeReplies
+pub mod IssuedProofs
+pub mod ReplyTexts
+pub mod WellPlaced

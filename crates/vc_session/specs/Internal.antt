@@ -1,0 +1,4 @@
+pub mod Drafts
+pub mod RequestMembers
+pub mod Outcomes
+pub mod Tasks

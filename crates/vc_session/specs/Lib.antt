@@ -1,0 +1,7 @@
+pub mod Replies
+pub mod ReplyTrees
+pub mod Requests
+pub mod Issuing
+pub mod Verifying
+pub mod Answers
+pub mod Internal
