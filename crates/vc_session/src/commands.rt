@@ -54,7 +54,8 @@ fn statements_of(alloc: Global, request: Tree) -> Reply
 }
 
 /// Reads a request to its end, and replies with its document, secured with a base proof in which every
-/// statement is mandatory. The device signs at most once, and nothing is signed where it is refused.
+/// statement is mandatory. Where it is refused nothing is signed; only where memory ran out a document may
+/// have been issued, and its reply be missing.
 #[tactic(auto, using(crate::proofs::OutcomeReplies::issue_steps))]
 pub fn issue<S: Source, D: KeyDevice>(alloc: Global, source: &mut S, device: &mut D) -> Reply
     ensures answer { AnswersRequest (IssueAnswers (D.means device.old) (D.means device.new))
