@@ -4,6 +4,7 @@ use Rattle.std.specs.Prelude.{All}
 use Rattle.std.proofs.lemmas.Bool.{cases_Bool, and_parts}
 use Rattle.std.proofs.lemmas.Bool.Decides.{nat_tests}
 use Rattle.std.proofs.lemmas.List.Elements.{All-nil, All-cons, All-head, All-tail}
+use Rattle.base_types.proofs.Options.{option_map-Some}
 use Rattle.proof_options.specs.declared.reading.Shift.{Shift}
 use Rattle.proof_options.specs.declared.reading.Shift.TheVariants.{Utc, Ahead, Behind}
 use Rattle.proof_options.specs.Stamps.{Offset, utc, ahead, behind, digit, fraction_text, offset_text, IsFraction, IsOffset, fraction_nanoseconds}
@@ -130,11 +131,6 @@ ended None a h = absurd (cc)
 ended (Some (b, [])) a h = let same : b ≡ a = cc in rw same refl
 ended (Some (b, c ∷ cs)) a h = absurd (cc)
 
--- what was mapped was there
-pub mapped : {A B : Type 0} (f : A → B) (o : Option A) (b : B) → option_map f o ≡ Some b → (a : A) × (o ≡ Some a) × (f a ≡ b)
-mapped f None b h = absurd (cc)
-mapped f (Some a) b h = (a, refl, cc)
-
 -- what was read is an offset's text
 pub shift_spells : (text : List ℕ) (s : Shift) → shift_from text ≡ Some s → text ≡ offset_text (offset_of s)
 shift_spells [] s h = absurd (cc)
@@ -147,12 +143,12 @@ shift_spells (b ∷ bs) s h = elim (cases_Bool (b == 90)) [
   | inr other ↦ elim (cases_Bool (b == 43)) [
     | inl is ↦
         let found : shift_from (b ∷ bs) ≡ option_map Ahead (at_end (clock_after 43 (b ∷ bs))) = rw (other, is) refl in
-        let m = mapped Ahead (at_end (clock_after 43 (b ∷ bs))) s (sym found ∙ h) in
+        let m = option_map-Some Ahead (at_end (clock_after 43 (b ∷ bs))) s (sym found ∙ h) in
         let spelled : b ∷ bs ≡ offset_text (offset_of (Ahead m.0)) = clock_spells 43 (b ∷ bs) [] m.0 (ended (clock_after 43 (b ∷ bs)) m.0 m.1) in
         spelled ∙ ap (λ x. offset_text (offset_of x)) m.2
     | inr not' ↦
         let found : shift_from (b ∷ bs) ≡ option_map Behind (at_end (clock_after 45 (b ∷ bs))) = rw (other, not') refl in
-        let m = mapped Behind (at_end (clock_after 45 (b ∷ bs))) s (sym found ∙ h) in
+        let m = option_map-Some Behind (at_end (clock_after 45 (b ∷ bs))) s (sym found ∙ h) in
         let spelled : b ∷ bs ≡ offset_text (offset_of (Behind m.0)) = clock_spells 45 (b ∷ bs) [] m.0 (ended (clock_after 45 (b ∷ bs)) m.0 m.1) in
         spelled ∙ ap (λ x. offset_text (offset_of x)) m.2
   ]

@@ -2,6 +2,7 @@
 use Rattle.std.proofs.Common.{◌≡◌, ℕ, ◌+◌, ◌*◌, ◌≤◌, ℤ, pos, ◌+ℤ◌, ◌-ℤ◌, ◌*ℤ◌, List, ◌∷◌, ◌++◌, Some, None, option_map, refl, sym, ap, ◌∙◌, subst, arith}
 use Rattle.std.proofs.lemmas.Bool.Decides.{nat_tests}
 use Rattle.base_types.proofs.Lists.{same_some}
+use Rattle.base_types.proofs.Options.{option_map-Some}
 use Rattle.proof_options.specs.declared.reading.Written.{Written}
 use Rattle.proof_options.specs.Calendar.{IsDate, month_length, epoch_day}
 use Rattle.proof_options.specs.Stamps.{StampParts, two_digits, date_text, clock_text, fraction_text, offset_text, stamp_text, IsFraction, IsOffset, IsStampOf, fraction_nanoseconds, offset_seconds, instant_of, IsStamp}
@@ -9,7 +10,7 @@ use Rattle.proof_options.specs.Internal.Reading.{day_from, clock_after, two_afte
 use Rattle.proof_options.specs.Internal.Written.{date_of, offset_of, IsTime, parts_with, Means}
 use Rattle.proof_options.proofs.Texts.{went_on, goes_on, two_reads, after_spells}
 use Rattle.proof_options.proofs.Spellings.{day_reads, day_spells, clock_reads, clock_spells}
-use Rattle.proof_options.proofs.Fractions.{fraction_reads, fraction_spells, mapped, shift_of, offset_of-shift_of, shift_reads, shift_spells}
+use Rattle.proof_options.proofs.Fractions.{fraction_reads, fraction_spells, shift_of, offset_of-shift_of, shift_reads, shift_spells}
 
 -- ---- what is read is spelled
 
@@ -28,7 +29,7 @@ written_spells text w h =
     let clock = went_on (clock_after 84 day.rest) _ w day.on in
     let second = went_on (two_after 58 clock.rest) _ w clock.on in
     let fraction = went_on (fraction_from second.rest) _ w second.on in
-    let shift = mapped _ (shift_from fraction.rest) w fraction.on in
+    let shift = option_map-Some _ (shift_from fraction.rest) w fraction.on in
     let d = day_spells text day.rest day.read day.was in
     let c = clock_spells 84 day.rest clock.rest clock.read clock.was in
     let s = after_spells 58 clock.rest second.rest second.read second.was in

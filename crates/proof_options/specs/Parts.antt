@@ -30,7 +30,7 @@ abbrev pub proof_of : Tree → Option Tree
 proof_of document = look (Key (codes "proof") ∷ []) document
 
 -- A secured document split: its body is all but `proof`, and the options are the proof without its
--- `proofValue`. -- Data Integrity ECDSA Cryptosuites 1.0, 3.3.2
+-- `proofValue`. -- Data Integrity ECDSA Cryptosuites 1.0, 3.2.2
 pub record IsSplit (suite : Suite) (document : Tree) (split : SplitProof) : Type 0 where
   pub proof : Tree
   pub stands : proof_of document ≡ Some proof

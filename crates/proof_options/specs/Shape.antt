@@ -14,7 +14,7 @@ use Rattle.proof_options.specs.Stamps.{IsStamp}
 abbrev pub named : List ℕ → Option Tree → Option Tree
 named name found = option_and_then (look (Key name ∷ [])) found
 
--- The identifier of a suite. -- Data Integrity ECDSA Cryptosuites 1.0, 3.3 and 3.5
+-- The identifier of a suite. -- Data Integrity ECDSA Cryptosuites 1.0, 3.2 and 3.6
 abbrev pub suite_name : Suite → List ℕ
 suite_name Selective = codes "ecdsa-sd-2023"
 suite_name Whole = codes "ecdsa-rdfc-2019"

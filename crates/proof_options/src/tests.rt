@@ -96,19 +96,32 @@ const NO_STAMPS: [&str; 44] = [
     "",
 ];
 
+/// The instant of a stamp and its text, or that there is none.
+fn instant_and_text(alloc: Global, text: &str) -> Result<String, Fail> {
+    match read_stamp(alloc, text)? {
+        Some(stamp) => {
+            let instant = stamp.nanosecond;
+            Ok(format!(in alloc; "{instant} {}", stamp.text.as_str())?)
+        }
+        None => Ok(format!(in alloc; "none")?),
+    }
+}
+
 #[test]
 fn stamps_have_their_instants(rt: HostRuntime) -> Result<(), Fail> {
     for (text, expected) in STAMPS {
-        let Some(stamp) = read_stamp(rt.alloc(), text)? else {
-            panic!(rt; "no stamp: {text}");
-        };
-        let instant = stamp.nanosecond;
-        let shown = format!(in rt.alloc(); "{instant}")?;
-        assert_eq!(rt; shown.as_str(), expected, "at {text}");
-        assert_eq!(rt; stamp.text.as_str(), text);
+        let wanted = format!(in rt.alloc(); "{expected} {text}")?;
+        assert_eq!(rt;
+            instant_and_text(rt.alloc(), text)?.as_str(),
+            wanted.as_str()
+        );
     }
     for text in NO_STAMPS {
-        assert!(rt; read_stamp(rt.alloc(), text)?.is_none(), "at {text}");
+        assert_eq!(rt;
+            instant_and_text(rt.alloc(), text)?.as_str(),
+            "none",
+            "at {text}"
+        );
     }
     Ok(())
 }
@@ -286,6 +299,15 @@ fn documents_are_refused_at_their_first_bad_field(rt: HostRuntime) -> Result<(),
         }
     }
     let options = read(rt.alloc(), b"{}")?;
-    assert!(rt; check(rt.alloc(), &options).is_err());
+    match check(rt.alloc(), &options) {
+        Err(fault) => {
+            let line = format!(in rt.alloc(); "{fault}")?;
+            assert_eq!(rt; line.as_str(), "`type` is not as a proof must have it");
+        }
+        Ok(options) => {
+            drop(options);
+            panic!(rt; "no refusal of an empty object");
+        }
+    }
     Ok(())
 }
