@@ -1,0 +1,9 @@
+pub mod KitCalendar
+pub mod Runs
+pub mod Texts
+pub mod Spellings
+pub mod Fractions
+pub mod Whole
+pub mod FirstBad
+pub mod OneOutcome
+pub mod Splitting
