@@ -9,7 +9,7 @@ use Rattle.std.proofs.lemmas.Bool.Decides.{nat_tests}
 use Rattle.std.proofs.lemmas.Map.Lookups.{exact_unsigned}
 use Rattle.std.proofs.lemmas.Map.Text.{is_eq-slice_cmp}
 use Rattle.std.proofs.lemmas.Option.{none-some}
-use Rattle.base_types.proofs.Orders.{bytes_eq-true, bytes_eq-false, bytes_eq-differ, is_before-differs}
+use Rattle.base_types.proofs.Orders.{bytes_eq-same, bytes_eq-true, bytes_eq-false, bytes_eq-differ, is_before-differs}
 use Rattle.base_types.proofs.Searching.{each_next-tail}
 use Rattle.json_tree.specs.declared.tree.Tree.{Tree}
 use Rattle.json_tree.specs.declared.tree.Tree.TheVariants as v
@@ -18,7 +18,7 @@ use Rattle.json_tree.specs.declared.tree.Member.{Member}
 use Rattle.json_tree.specs.declared.place.Step.{Step}
 use Rattle.json_tree.specs.declared.place.Step.TheVariants.{Key, At}
 use Rattle.json_tree.specs.Trees.{each_next, element, new_member}
-use Rattle.json_tree.proofs.Rising.{NamesRise, first_is_before, bytes_eq-itself}
+use Rattle.json_tree.proofs.Rising.{NamesRise, first_is_before}
 use Rattle.pointer_select.specs.Internal.Parts.{is_step, steps_in, steps_of, StandsOnly}
 
 -- ---- members
@@ -43,7 +43,7 @@ later_members m (n ∷ ns) h = (h 0 n (omega arith), later_members m ns (λ k d 
 
 member_at : (ms : List (Member Tree)) (k : ℕ) (d : Member Tree) → NamesRise ms → k < length ms → StandsOnly (Key (get_or ms k d).key) (key_steps ms) (Some k)
 member_at [] k d rise within = absurd (omega arith)
-member_at (m ∷ ms) zero d rise within = (bytes_eq-itself m.key, later_members m ms (λ k e l. is_before-differs m.key (get_or ms k e).key (first_is_before m ms k e rise l)))
+member_at (m ∷ ms) zero d rise within = (bytes_eq-same m.key m.key refl, later_members m ms (λ k e l. is_before-differs m.key (get_or ms k e).key (first_is_before m ms k e rise l)))
 member_at (m ∷ ms) (suc k) d rise within = (other_way m.key (get_or ms k d).key (is_before-differs m.key (get_or ms k d).key (first_is_before m ms k d rise (omega arith))), member_at ms k d (each_next-tail _ m ms rise) (omega arith))
 
 -- the member at which the search ends

@@ -1,10 +1,12 @@
 -- What is made level by level is the tree restricted to the kept places.
-use Rattle.std.proofs.Common.{◌≡◌, ◌<◌, ◌≤◌, ◌+◌, ℕ, ℤ, zero, suc, Bool, true, false, not, ◌&&◌, ◌||◌, List, [], ◌∷◌, ◌++◌, map, length, drop, get_or, slice_get, Option, Some, None, if◌then◌else◌, refl, sym, ap, ◌∙◌, subst, arith, append-nil, append_assoc, inl, inr}
+use Rattle.std.proofs.Common.{◌≡◌, ◌<◌, ◌≤◌, ◌+◌, ℕ, ℤ, zero, suc, Bool, true, false, not, ◌&&◌, ◌||◌, List, [], ◌∷◌, ◌++◌, map, length, drop, get_or, slice_get, Option, Some, None, if◌then◌else◌, nat_lt, Result, Ok, Err, IfOk, refl, sym, ap, ◌∙◌, subst, arith, append-nil, append_assoc, inl, inr}
 use Rattle.std.specs.List.{list_any, list_all}
-use Rattle.std.proofs.lemmas.Bool.{cases_Bool, and_parts}
+use Rattle.std.proofs.lemmas.Bool.{cases_Bool, true≢false, and_parts}
+use Rattle.std.proofs.lemmas.Bool.Decides.{nat_tests}
 use Rattle.std.proofs.lemmas.Option.{same_Some, none-some}
-use Rattle.std.proofs.lemmas.List.{length-map, get_or-map}
+use Rattle.std.proofs.lemmas.List.{drop_all, length-map, get_or-map}
 use denote.Ref.{Bor}
+use Rattle.base_types.specs.declared.memory.Memory.{Memory}
 use Rattle.base_types.proofs.Lists.{drop-next}
 use Rattle.json_tree.specs.declared.tree.Tree.{Tree, the_lemmas}
 use Rattle.json_tree.specs.declared.tree.Tree.TheVariants as v
@@ -109,6 +111,11 @@ whole_made t pointed b is yes' =
     let ends : one_ends (slices pointed) ≡ true = sym (ends_seen pointed) ∙ sym is ∙ yes' in
     sym (ap (restricted t) (λ k place. all_kept (slices pointed) ends place k) ∙ restricted-all t)
 
+-- and so is its copy
+pub copy_made : (r : Result Tree Memory) (t : Tree) (pointed : List (Bor (List Step))) → IfOk r (λ u. u ≡ t) → true ≡ list_any (λ s. is_none_left s.now) pointed → IfOk r (λ part. part ≡ restricted t (keeps (slices pointed)))
+copy_made (Ok u) t pointed same ends = same ∙ whole_made t pointed true ends refl
+copy_made (Err e) t pointed same ends = tt
+
 -- of a list
 pub list_made : (t : Tree) (items seen : List (Item Tree)) (pointed : List (Bor (List Step))) (b : Bool) (groups : List (List (List Step))) (part : List (Item Tree)) → b ≡ list_any (λ s. is_none_left s.now) pointed → b ≡ false → t ≡ v.List items → seen ≡ items → groups ≡ map (λ s. after_steps s (slices pointed)) (steps_of t) → part ≡ parts_of item_part groups seen → v.List part ≡ restricted t (keeps (slices pointed))
 list_made t items seen pointed b groups part told no' is same grouped made =
@@ -169,9 +176,9 @@ no_parts part [] = refl
 no_parts part (g ∷ gs) = refl
 
 -- the end
-pub parts_end : {A B : Type 0} (part : List (List Step) → A → List B) (gs : List (List (List Step))) (xs : List A) (whole done : List B) → whole ≡ done ++ parts_of part gs xs → xs ≡ [] → done ≡ whole
-parts_end part gs xs whole done is none =
-    sym (is ∙ ap (λ ys. done ++ parts_of part gs ys) none ∙ ap (λ zs. done ++ zs) (no_parts part gs) ∙ append-nil done)
+pub parts_end : {A B : Type 0} (part : List (List Step) → A → List B) (gs : List (List (List Step))) (xs : List A) (k : ℕ) (whole done : List B) → whole ≡ done ++ parts_of part gs (drop k xs) → length xs ≤ k → done ≡ whole
+parts_end part gs xs k whole done is past =
+    sym (is ∙ ap (λ ys. done ++ parts_of part gs ys) (drop_all k xs past) ∙ ap (λ zs. done ++ zs) (no_parts part gs) ∙ append-nil done)
 
 -- the end of the groups
 pub groups_end : {A B : Type 0} (part : List (List Step) → A → List B) (gs : List (List (List Step))) (xs : List A) (whole done : List B) → whole ≡ done ++ parts_of part gs xs → gs ≡ [] → done ≡ whole
@@ -180,10 +187,10 @@ groups_end part gs xs whole done is none =
 
 -- ---- a turn of a loop, with the group that stands at the index
 
-group_there : (groups : List (List (Bor (List Step)))) (k : ℕ) (g : List (Bor (List Step))) → Some g ≡ slice_get groups k → (k < length (groups_now groups)) × (slices g ≡ get_or (groups_now groups) k (slices g))
-group_there [] k g h = absurd (none-some g (sym h))
-group_there (x ∷ xs) zero g h = (omega arith, ap slices (same_Some g x h))
-group_there (x ∷ xs) (suc k) g h = let more = group_there xs k g h in (let low = more.0 in omega arith, more.1)
+group_there : (groups : List (List (Bor (List Step)))) (k : ℕ) (g : List (Bor (List Step))) → true ≡ nat_lt k (length groups) → g ≡ get_or groups k g → (k < length (groups_now groups)) × (slices g ≡ get_or (groups_now groups) k (slices g))
+group_there groups k g inside is =
+    let within : k < length groups = grind (arith, nat_tests) in
+    (omega (arith, length-map groups slices), ap slices is ∙ sym (get_or-map slices groups k g (slices g) within))
 
 no_group : (groups : List (List (Bor (List Step)))) (k : ℕ) → None ≡ slice_get groups k → drop k (groups_now groups) ≡ []
 no_group [] zero h = refl
@@ -191,29 +198,70 @@ no_group [] (suc k) h = refl
 no_group (x ∷ xs) zero h = absurd (none-some x h)
 no_group (x ∷ xs) (suc k) h = no_group xs k h
 
+any_there : {A : Type 0} (xs : List A) (k : ℕ) (d e : A) → k < length xs → get_or xs k d ≡ get_or xs k e
+any_there [] k d e inside = absurd (omega arith)
+any_there (x ∷ xs) zero d e inside = refl
+any_there (x ∷ xs) (suc k) d e inside = any_there xs k d e (omega arith)
+
+some_lead : (g : List (Bor (List Step))) (empty : Bool) → (g ≡ [] → empty ≡ true) → empty ≡ false → is_none_left (slices g) ≡ false
+some_lead [] empty told no' = absurd (true≢false (sym (told refl) ∙ no'))
+some_lead (x ∷ xs) empty told no' = refl
+
 -- an element stays
-pub item_stays : (items : List (Item Tree)) (groups : List (List (Bor (List Step)))) (k : ℕ) (i : Item Tree) (g : List (Bor (List Step))) (value : Tree) (whole done new : List (Item Tree)) → whole ≡ done ++ parts_of item_part (drop k (groups_now groups)) (drop k items) → k < length items → i ≡ get_or items k i → Some g ≡ slice_get groups k → Some value ≡ item_value (slices g) i → new ≡ done ++ element i.at value ∷ [] → whole ≡ new ++ parts_of item_part (drop (k + 1) (groups_now groups)) (drop (k + 1) items)
-item_stays items groups k i g value whole done new is inside here there made longer =
-    let group = group_there groups k g there in
-    parts_more item_part (groups_now groups) items k (slices g) i whole done new is group.0 inside group.1 here (longer ∙ ap (λ o. done ++ with_item_value i o) made)
+pub item_stays : (items : List (Item Tree)) (groups : List (List (Bor (List Step)))) (k : ℕ) (d e : Item Tree) (g s : List (Bor (List Step))) (empty : Bool) (value : Tree) (whole done new : List (Item Tree)) → whole ≡ done ++ parts_of item_part (drop k (groups_now groups)) (drop k items) → k < length items → true ≡ nat_lt k (length groups) → g ≡ get_or groups k g → (g ≡ [] → empty ≡ true) → empty ≡ false → s ≡ g → value ≡ restricted (get_or items k d).value (keeps (slices s)) → new ≡ done ++ element (get_or items k e).at value ∷ [] → whole ≡ new ++ parts_of item_part (drop (k + 1) (groups_now groups)) (drop (k + 1) items)
+item_stays items groups k d e g s empty value whole done new is inside short there told no' same made longer =
+    let i = get_or items k d in
+    let group = group_there groups k g short there in
+    let some = some_lead g empty told no' in
+    let stays : Some value ≡ item_value (slices g) i = ap Some (made ∙ ap (λ ps. restricted i.value (keeps (slices ps))) same) ∙ sym (ap (λ (b : Bool). if b then None else Some (restricted i.value (keeps (slices g)))) some) in
+    parts_more item_part (groups_now groups) items k (slices g) i whole done new is group.0 inside group.1 (any_there items k d i inside)
+    (longer ∙ ap (λ (j : Item Tree). done ++ element j.at value ∷ []) (any_there items k e d inside) ∙ ap (λ o. done ++ with_item_value i o) stays)
 
 -- an element is left out
-pub item_goes : (items : List (Item Tree)) (groups : List (List (Bor (List Step)))) (k : ℕ) (i : Item Tree) (g : List (Bor (List Step))) (whole done : List (Item Tree)) → whole ≡ done ++ parts_of item_part (drop k (groups_now groups)) (drop k items) → k < length items → i ≡ get_or items k i → Some g ≡ slice_get groups k → None ≡ item_value (slices g) i → whole ≡ done ++ parts_of item_part (drop (k + 1) (groups_now groups)) (drop (k + 1) items)
-item_goes items groups k i g whole done is inside here there made =
-    let group = group_there groups k g there in
-    parts_more item_part (groups_now groups) items k (slices g) i whole done done is group.0 inside group.1 here (sym (append-nil done) ∙ ap (λ o. done ++ with_item_value i o) made)
+pub item_goes : (items : List (Item Tree)) (groups : List (List (Bor (List Step)))) (k : ℕ) (g : List (Bor (List Step))) (whole done new : List (Item Tree)) → whole ≡ done ++ parts_of item_part (drop k (groups_now groups)) (drop k items) → k < length items → true ≡ nat_lt k (length groups) → g ≡ get_or groups k g → g ≡ [] → new ≡ done → whole ≡ new ++ parts_of item_part (drop (k + 1) (groups_now groups)) (drop (k + 1) items)
+item_goes items groups k g whole done new is inside short there none as_was =
+    let d = element 0 v.Null in
+    let i = get_or items k d in
+    let group = group_there groups k g short there in
+    let goes : None ≡ item_value (slices g) i = sym (ap (λ ps. item_value (slices ps) i) none) in
+    parts_more item_part (groups_now groups) items k (slices g) i whole done new is group.0 inside group.1 (any_there items k d i inside)
+    (as_was ∙ sym (append-nil done) ∙ ap (λ o. done ++ with_item_value i o) goes)
 
--- a member stays
-pub member_stays : (members : List (Member Tree)) (groups : List (List (Bor (List Step)))) (k : ℕ) (m : Member Tree) (g : List (Bor (List Step))) (key : List ℕ) (value : Tree) (whole done new : List (Member Tree)) → whole ≡ done ++ parts_of member_part (drop k (groups_now groups)) (drop k members) → k < length members → m ≡ get_or members k m → Some g ≡ slice_get groups k → Some value ≡ member_value (slices g) m → key ≡ m.key → new ≡ done ++ new_member key value ∷ [] → whole ≡ new ++ parts_of member_part (drop (k + 1) (groups_now groups)) (drop (k + 1) members)
-member_stays members groups k m g key value whole done new is inside here there made named longer =
-    let group = group_there groups k g there in
-    parts_more member_part (groups_now groups) members k (slices g) m whole done new is group.0 inside group.1 here (longer ∙ ap (λ n. done ++ new_member n value ∷ []) named ∙ ap (λ o. done ++ with_member_value m o) made)
+named_as : (members : List (Member Tree)) (k : ℕ) (d : Member Tree) (text : List ℕ) (b c : Bool) → b ≡ is_kept_name text → text ≡ (get_or members k d).key → b ≡ c → is_kept_name (get_or members k d).key ≡ c
+named_as members k d text b c told name is = ap is_kept_name (sym name) ∙ sym told ∙ is
+
+-- a member with a kept name stays whole
+pub member_kept : (members : List (Member Tree)) (groups : List (List (Bor (List Step)))) (k : ℕ) (d e f : Member Tree) (g : List (Bor (List Step))) (text : List ℕ) (b : Bool) (value : Tree) (whole done new : List (Member Tree)) → whole ≡ done ++ parts_of member_part (drop k (groups_now groups)) (drop k members) → k < length members → true ≡ nat_lt k (length groups) → g ≡ get_or groups k g → b ≡ is_kept_name text → text ≡ (get_or members k d).key → b ≡ true → value ≡ (get_or members k e).value → new ≡ done ++ new_member (get_or members k f).key value ∷ [] → whole ≡ new ++ parts_of member_part (drop (k + 1) (groups_now groups)) (drop (k + 1) members)
+member_kept members groups k d e f g text b value whole done new is inside short there told named kept made longer =
+    let m = get_or members k d in
+    let group = group_there groups k g short there in
+    let name = named_as members k d text b true told named kept in
+    let stays : Some value ≡ member_value (slices g) m = ap Some (made ∙ ap (λ (n : Member Tree). n.value) (any_there members k e d inside)) ∙ sym (ap (λ (b : Bool). if b then Some m.value else (if is_none_left (slices g) then None else Some (restricted m.value (keeps (slices g))))) name) in
+    parts_more member_part (groups_now groups) members k (slices g) m whole done new is group.0 inside group.1 (any_there members k d m inside)
+    (longer ∙ ap (λ (n : Member Tree). done ++ new_member n.key value ∷ []) (any_there members k f d inside) ∙ ap (λ o. done ++ with_member_value m o) stays)
+
+-- another member stays
+pub member_stays : (members : List (Member Tree)) (groups : List (List (Bor (List Step)))) (k : ℕ) (d e f : Member Tree) (g s : List (Bor (List Step))) (text : List ℕ) (b empty : Bool) (value : Tree) (whole done new : List (Member Tree)) → whole ≡ done ++ parts_of member_part (drop k (groups_now groups)) (drop k members) → k < length members → true ≡ nat_lt k (length groups) → g ≡ get_or groups k g → b ≡ is_kept_name text → text ≡ (get_or members k d).key → b ≡ false → (g ≡ [] → empty ≡ true) → empty ≡ false → s ≡ g → value ≡ restricted (get_or members k e).value (keeps (slices s)) → new ≡ done ++ new_member (get_or members k f).key value ∷ [] → whole ≡ new ++ parts_of member_part (drop (k + 1) (groups_now groups)) (drop (k + 1) members)
+member_stays members groups k d e f g s text b empty value whole done new is inside short there told named other bare no' same made longer =
+    let m = get_or members k d in
+    let group = group_there groups k g short there in
+    let name = named_as members k d text b false told named other in
+    let some = some_lead g empty bare no' in
+    let stays : Some value ≡ member_value (slices g) m =
+        ap Some (made ∙ ap (λ (n : Member Tree). restricted n.value (keeps (slices s))) (any_there members k e d inside) ∙ ap (λ ps. restricted m.value (keeps (slices ps))) same)
+        ∙ sym (ap (λ (b : Bool). if b then Some m.value else (if is_none_left (slices g) then None else Some (restricted m.value (keeps (slices g))))) name ∙ ap (λ (b : Bool). if b then None else Some (restricted m.value (keeps (slices g)))) some) in
+    parts_more member_part (groups_now groups) members k (slices g) m whole done new is group.0 inside group.1 (any_there members k d m inside)
+    (longer ∙ ap (λ (n : Member Tree). done ++ new_member n.key value ∷ []) (any_there members k f d inside) ∙ ap (λ o. done ++ with_member_value m o) stays)
 
 -- a member is left out
-pub member_goes : (members : List (Member Tree)) (groups : List (List (Bor (List Step)))) (k : ℕ) (m : Member Tree) (g : List (Bor (List Step))) (whole done : List (Member Tree)) → whole ≡ done ++ parts_of member_part (drop k (groups_now groups)) (drop k members) → k < length members → m ≡ get_or members k m → Some g ≡ slice_get groups k → None ≡ member_value (slices g) m → whole ≡ done ++ parts_of member_part (drop (k + 1) (groups_now groups)) (drop (k + 1) members)
-member_goes members groups k m g whole done is inside here there made =
-    let group = group_there groups k g there in
-    parts_more member_part (groups_now groups) members k (slices g) m whole done done is group.0 inside group.1 here (sym (append-nil done) ∙ ap (λ o. done ++ with_member_value m o) made)
+pub member_goes : (members : List (Member Tree)) (groups : List (List (Bor (List Step)))) (k : ℕ) (d : Member Tree) (g : List (Bor (List Step))) (text : List ℕ) (b : Bool) (whole done new : List (Member Tree)) → whole ≡ done ++ parts_of member_part (drop k (groups_now groups)) (drop k members) → k < length members → true ≡ nat_lt k (length groups) → g ≡ get_or groups k g → b ≡ is_kept_name text → text ≡ (get_or members k d).key → b ≡ false → g ≡ [] → new ≡ done → whole ≡ new ++ parts_of member_part (drop (k + 1) (groups_now groups)) (drop (k + 1) members)
+member_goes members groups k d g text b whole done new is inside short there told named other none as_was =
+    let m = get_or members k d in
+    let group = group_there groups k g short there in
+    let name = named_as members k d text b false told named other in
+    let goes : None ≡ member_value (slices g) m = sym (ap (λ (b : Bool). if b then Some m.value else (if is_none_left (slices g) then None else Some (restricted m.value (keeps (slices g))))) name ∙ ap (λ ps. if is_none_left (slices ps) then None else Some (restricted m.value (keeps (slices ps)))) none) in
+    parts_more member_part (groups_now groups) members k (slices g) m whole done new is group.0 inside group.1 (any_there members k d m inside)
+    (as_was ∙ sym (append-nil done) ∙ ap (λ o. done ++ with_member_value m o) goes)
 
 -- no group is left
 pub groups_over : {A B : Type 0} (part : List (List Step) → A → List B) (groups : List (List (Bor (List Step)))) (xs : List A) (k : ℕ) (whole done : List B) → whole ≡ done ++ parts_of part (drop k (groups_now groups)) (drop k xs) → None ≡ slice_get groups k → done ≡ whole
@@ -241,4 +289,4 @@ member_fine [] k m all inside here = absurd (omega arith)
 member_fine (x ∷ xs) zero m all inside here = ap (λ (n : Member Tree). is_lawful n.value) here ∙ (and_parts (is_lawful x.value) _ all).0
 member_fine (x ∷ xs) (suc k) m all inside here = member_fine xs k m (and_parts (is_lawful x.value) _ all).1 (omega arith) here
 
-pub ruleset making = (the_lemmas, whole_made, list_made, object_made, null_made, bool_made, number_made, version_made, text_made, list_count, object_count, items_fine, members_fine, item_fine, member_fine, item_stays, item_goes, member_stays, member_goes, groups_over)
+pub ruleset making = (the_lemmas, item_fine, member_fine, whole_made, list_made, object_made, null_made, bool_made, number_made, version_made, text_made, list_count, object_count, items_fine, members_fine, groups_over)

@@ -1,10 +1,10 @@
 //! The part of a tree that has the pointed places, made level by level.
-ghost use Rattle.std.specs.Prelude.{◌≡◌, [], true, map, length, nat_lt, IfOk, OnOk};
+ghost use Rattle.std.specs.Prelude.{◌≡◌, ◌++◌, ◌∷◌, [], true, map, length, nat_lt, IfOk, OnOk};
 ghost use Rattle.std.specs.List.{list_all, list_any};
 ghost use Rattle.json_tree.specs.declared.place.Step.TheVariants as step;
-ghost use Rattle.json_tree.specs.Trees.{each_next, is_before, is_lawful};
+ghost use Rattle.json_tree.specs.Trees.{each_next, is_before, is_lawful, new_member};
 ghost use Rattle.pointer_select.specs.Kept.{is_kept_name};
-ghost use Rattle.pointer_select.specs.Internal.Parts.{restricted, keeps, is_none_left, after_steps, with_after, steps_of, StandsOnly, empties, slices, groups_now, item_value, item_part, member_value, member_part, parts_of};
+ghost use Rattle.pointer_select.specs.Internal.Parts.{restricted, keeps, is_none_left, after_steps, with_after, steps_of, StandsOnly, empties, slices, groups_now, item_part, member_part, parts_of};
 
 use base_types::{Items, Memory, Sequence, Text, search_by_key};
 use json_tree::{Item, Member, Step, Tree};
@@ -172,26 +172,13 @@ fn part_of_items(
         let Some(group) = groups.get(k) else {
             return Ok(part);
         };
-        if let Some(value) = part_of_item(alloc, &items[k], group.as_slice())? {
+        if !group.is_empty() {
+            let value = part_of(alloc, &items[k].value, group.as_slice())?;
             let at = items[k].at;
             part.push(Item { at, value })?;
         }
     }
     Ok(part)
-}
-
-/// What stays of an element's value.
-#[cycle(part)]
-#[tactic(auto, using(crate::proofs::PartLemmas::making))]
-fn part_of_item(alloc: Global, item: &Item, group: &[&[Step]]) -> Result<Option<Tree>, Memory>
-    requires { is_lawful item.now.value ≡ true }
-    ensures { IfOk result (λ found. found ≡ item_value (slices group.now) item.now) }
-{
-    if group.is_empty() {
-        return Ok(None);
-    }
-    let value = part_of(alloc, &item.value, group)?;
-    Ok(Some(value))
 }
 
 #[cycle(part)]
@@ -210,32 +197,27 @@ fn part_of_members(
         let Some(group) = groups.get(k) else {
             return Ok(part);
         };
-        if let Some(value) = part_of_member(alloc, &members[k], group.as_slice())? {
-            let key = Text::from_str(alloc, members[k].key.as_str())?;
-            part.push(Member { key, value })?;
+        if is_kept_name(members[k].key.as_str()) {
+            let value = members[k].value.copy(alloc)?;
+            push_member(alloc, &mut part, &members[k].key, value)?;
+        } else if !group.is_empty() {
+            let value = part_of(alloc, &members[k].value, group.as_slice())?;
+            push_member(alloc, &mut part, &members[k].key, value)?;
         }
     }
     Ok(part)
 }
 
-/// What stays of a member's value.
-#[cycle(part)]
-#[tactic(auto, using(crate::proofs::PartLemmas::making))]
-fn part_of_member(
+/// Puts a member of that name behind the others.
+fn push_member(
     alloc: Global,
-    member: &Member,
-    group: &[&[Step]],
-) -> Result<Option<Tree>, Memory>
-    requires { is_lawful member.now.value ≡ true }
-    ensures { IfOk result (λ found. found ≡ member_value (slices group.now) member.now) }
+    members: &mut Items<Member>,
+    key: &Text,
+    value: Tree,
+) -> Result<(), Memory>
+    ensures { OnOk result (members.new ≡ members.old ++ new_member key.now value ∷ []) }
 {
-    if is_kept_name(member.key.as_str()) {
-        let value = member.value.copy(alloc)?;
-        return Ok(Some(value));
-    }
-    if group.is_empty() {
-        return Ok(None);
-    }
-    let value = part_of(alloc, &member.value, group)?;
-    Ok(Some(value))
+    let key = Text::from_str(alloc, key.as_str())?;
+    members.push(Member { key, value })?;
+    Ok(())
 }
