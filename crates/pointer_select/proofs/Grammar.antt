@@ -82,11 +82,6 @@ scan_more text k o within good is =
 pub slice_left : (text : List ℕ) (k : ℕ) → k < length text → take (length text - k) (drop k text) ≡ drop k text
 slice_left text k within = take_all (length text - k) (drop k text) (omega (arith, length-drop k text))
 
--- a bad escape found
-pub scan_found : (n : ℕ) (text : List ℕ) (o : Option ℕ) → is_bad_escape text ≡ true → o ≡ first_bad_escape n text → Some n ≡ o
-scan_found n [] o bad is = absurd (cc)
-scan_found n (c ∷ cs) o bad is = sym (is ∙ scan_here n c cs bad)
-
 -- ---- the first fault
 
 -- the byte that is found is the first at which the text leaves the grammar

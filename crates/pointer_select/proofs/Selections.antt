@@ -243,11 +243,6 @@ pub passed_on : (pointers : List (List (List ℕ))) (t part : Tree) (places : Li
 passed_on pointers t part places pointed seen lawful some named steps same is =
     selected pointers t part (map (λ (p : Place). p.steps) places) seen lawful some named (same ∙ steps) is
 
--- a fault that is handed on
-pub refused : (pointers : List (List (List ℕ))) (t : Tree) (e : SelectFault) → ((index : ℕ) → e ≡ Missing index → first_missing pointers t ≡ Some index) → Selects pointers t (Err e)
-refused pointers t (Missing index) h = h index refl
-refused pointers t Memory h = tt
-
 -- a selection keeps the conditions of trees
 pub stays_well_formed : (pointers : List (List (List ℕ))) (t part : Tree) → IsSelection pointers t part → IsWellFormed t → IsWellFormed part
 stays_well_formed pointers t part s w = part_well_formed s.places t part s.restricts w

@@ -127,20 +127,29 @@ fn pointers_of(alloc: Global, texts: &[&str]) -> Result<Result<Vec<Pointer>, u64
     Ok(Ok(pointers))
 }
 
-/// The compact text of the part, or what is answered in its place.
-fn outcome(alloc: Global, document: &str, texts: &[&str]) -> Result<Vec<u8>, Fail> {
-    let pointers = match pointers_of(alloc, texts)? {
-        Ok(pointers) => pointers,
-        Err(at) => return Ok(format!(in alloc; "BadPointer {at}")?.into_bytes()),
-    };
+/// What is answered in place of a part.
+fn fault_text(alloc: Global, fault: SelectFault) -> Result<Vec<u8>, Fail> {
+    match fault {
+        SelectFault::Missing(index) => Ok(format!(in alloc; "Missing {index}")?.into_bytes()),
+        SelectFault::Memory => Ok(String::from_str(alloc, "no memory")?.into_bytes()),
+    }
+}
+
+/// The compact text of the part that the pointers select, or what is answered in its place.
+fn selected(alloc: Global, document: &str, pointers: &[Pointer]) -> Result<Vec<u8>, Fail> {
     let tree = read(alloc, document.as_bytes())?;
-    match select(alloc, &tree, pointers.as_slice()) {
+    match select(alloc, &tree, pointers) {
         Ok(None) => Ok(String::from_str(alloc, "none")?.into_bytes()),
         Ok(Some(part)) => Ok(print(alloc, &part)?),
-        Err(SelectFault::Missing(index)) => {
-            Ok(format!(in alloc; "Missing {index}")?.into_bytes())
-        }
-        Err(SelectFault::Memory) => Ok(String::from_str(alloc, "no memory")?.into_bytes()),
+        Err(fault) => fault_text(alloc, fault),
+    }
+}
+
+/// What these texts select of the document, or the first byte at which one is no pointer.
+fn outcome(alloc: Global, document: &str, texts: &[&str]) -> Result<Vec<u8>, Fail> {
+    match pointers_of(alloc, texts)? {
+        Ok(pointers) => selected(alloc, document, pointers.as_slice()),
+        Err(at) => Ok(format!(in alloc; "BadPointer {at}")?.into_bytes()),
     }
 }
 
