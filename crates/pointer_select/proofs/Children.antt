@@ -19,7 +19,7 @@ use Rattle.json_tree.specs.declared.place.Step.{Step}
 use Rattle.json_tree.specs.declared.place.Step.TheVariants.{Key, At}
 use Rattle.json_tree.specs.Trees.{each_next, element, new_member}
 use Rattle.json_tree.proofs.Rising.{NamesRise, first_is_before}
-use Rattle.pointer_select.specs.Internal.Parts.{is_step, steps_in, steps_of, StandsOnly}
+use Rattle.pointer_select.specs.Internal.Parts.{steps_in, steps_of, StandsOnly}
 
 -- ---- members
 

@@ -1,17 +1,16 @@
 -- The grammar of pointers: the first byte where a text leaves it, and the tokens that a text spells.
-use Rattle.std.proofs.Common.{◌≡◌, ◌≤◌, ◌<◌, ◌+◌, ◌-◌, ℕ, zero, suc, List, [], ◌∷◌, ◌++◌, length, take, drop, Bool, true, false, not, ◌==◌, ◌||◌, ◌&&◌, if◌then◌else◌, Option, Some, None, Result, Ok, Err, refl, sym, ap, ◌∙◌, subst, append_assoc, append-nil, arith, inl, inr}
+use Rattle.std.proofs.Common.{◌≡◌, ◌≤◌, ◌<◌, ◌+◌, ◌-◌, ℕ, zero, suc, List, [], ◌∷◌, ◌++◌, length, take, drop, Bool, true, false, not, ◌==◌, ◌&&◌, if◌then◌else◌, Option, Some, None, Result, Ok, Err, refl, sym, ap, ◌∙◌, subst, append_assoc, append-nil, arith, inl, inr}
 use Rattle.std.specs.List.{flat_map}
 use Rattle.std.proofs.lemmas.Bool.{cases_Bool, true≢false}
 use Rattle.std.proofs.lemmas.Bool.Decides.{nat_tests}
 use Rattle.std.proofs.lemmas.List.{take_all, length-drop}
 use Rattle.std.proofs.lemmas.List.Concat.{flat_map-append}
 use Rattle.std.proofs.lemmas.Option.{same_Some, none-some}
-use Rattle.base_types.proofs.Lists.{drop-next}
 use Rattle.json_tree.specs.Places.{escaped}
 use Rattle.pointer_select.specs.declared.fault.PointerFault.{PointerFault}
 use Rattle.pointer_select.specs.declared.fault.PointerFault.TheVariants.{BadPointer, Memory}
 use Rattle.pointer_select.specs.Pointers.{pointer_with, ends_escape, is_bad_escape, begins_otherwise, LeavesAt, LeavesFirstAt, start, escape, ReadsPointer}
-use Rattle.pointer_select.specs.Internal.Reading.{first_bad_escape, first_fault, meant, tokens_from}
+use Rattle.pointer_select.specs.Internal.Reading.{first_bad_escape, first_fault, tokens_from}
 
 equal : (b c : ℕ) → (b == c) ≡ true → b ≡ c
 equal b c h = grind (arith, nat_tests)

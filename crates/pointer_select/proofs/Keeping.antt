@@ -1,12 +1,12 @@
 -- Which places are kept: the test by which the part is made agrees with the definition.
-use Rattle.std.proofs.Common.{◌≡◌, ◌⊎◌, ℕ, List, [], ◌∷◌, ◌++◌, Bool, true, false, ◌&&◌, ◌||◌, Option, Some, None, if◌then◌else◌, Contains, refl, sym, ap, ◌∙◌, subst, append_assoc, inl, inr}
-use Rattle.std.specs.List.{list_any, filter_map, cons_option}
+use Rattle.std.proofs.Common.{◌≡◌, ℕ, List, [], ◌∷◌, ◌++◌, Bool, true, false, ◌&&◌, ◌||◌, Some, None, if◌then◌else◌, Contains, refl, sym, ap, ◌∙◌, subst, append_assoc, inl, inr}
+use Rattle.std.specs.List.{list_any, cons_option}
 use Rattle.std.proofs.lemmas.Bool.{cases_Bool, true≢false, and_parts, and_from}
 use Rattle.base_types.proofs.Lists.{Contains-here, Contains-there, Contains-cons_cases, Contains-nil}
 use Rattle.json_tree.specs.declared.place.Step.{Step}
 use Rattle.json_tree.specs.declared.place.Step.TheVariants.{Key, At}
 use Rattle.pointer_select.specs.Kept.{is_kept_name, IsUpTo, IsUnderKeptName, IsKeptFor, IsKept}
-use Rattle.pointer_select.specs.Internal.Parts.{is_step, after_step, after_steps, is_none_left, one_ends, is_kept_step, keeps}
+use Rattle.pointer_select.specs.Internal.Parts.{is_step, after_steps, one_ends, is_kept_step, keeps}
 use Rattle.pointer_select.proofs.StepTests.{is_step-itself, is_step-true}
 
 -- ---- one pointed place

@@ -1,8 +1,8 @@
 -- The step that a token names, and the place that tokens name, one token after the other.
-use Rattle.std.proofs.Common.{◌≡◌, ◌<◌, ◌≤◌, ◌+◌, ◌^◌, ◌==◌, ℕ, zero, suc, List, [], ◌∷◌, ◌++◌, map, length, drop, take, get_or, slice_get, Bool, true, false, nat_lt, cond, if◌then◌else◌, Option, Some, None, option_map, option_and_then, find, is_none, refl, sym, ap, ◌∙◌, subst, append_assoc, append-nil, arith, inl, inr, decimal}
+use Rattle.std.proofs.Common.{◌≡◌, ◌<◌, ◌≤◌, ◌+◌, ◌^◌, ℕ, zero, suc, List, [], ◌∷◌, ◌++◌, map, length, drop, take, get_or, slice_get, Bool, true, false, nat_lt, cond, if◌then◌else◌, Option, Some, None, option_map, option_and_then, find, is_none, refl, sym, ap, ◌∙◌, subst, append_assoc, append-nil, arith, inl, inr, decimal}
 use Rattle.std.specs.Str.{bytes_eq}
 use Rattle.std.specs.Option.{IfSome}
-use Rattle.std.specs.List.{position, position_or_len}
+use Rattle.std.specs.List.{position_or_len}
 use Rattle.std.proofs.lemmas.Bool.{cases_Bool}
 use Rattle.std.proofs.lemmas.Bool.Decides.{nat_tests}
 use Rattle.std.proofs.lemmas.List.Sums.{position_or_len_is}
@@ -10,8 +10,7 @@ use Rattle.std.proofs.lemmas.Option.{same_Some, none-some}
 use Rattle.base_types.proofs.Lists.{drop-next}
 use Rattle.base_types.proofs.Orders.{bytes_eq-true}
 use Rattle.base_types.proofs.Searching.{each_next-tail}
-use Rattle.json_tree.specs.declared.tree.Tree.{Tree, out-Tree}
-use Rattle.json_tree.specs.declared.tree.Tree.TheOpen.{Tree-F}
+use Rattle.json_tree.specs.declared.tree.Tree.{Tree}
 use Rattle.json_tree.specs.declared.tree.Tree.TheVariants as v
 use Rattle.json_tree.specs.declared.tree.Item.{Item}
 use Rattle.json_tree.specs.declared.tree.Member.{Member}

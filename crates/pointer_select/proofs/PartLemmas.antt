@@ -1,9 +1,9 @@
 -- What is made level by level is the tree restricted to the kept places.
-use Rattle.std.proofs.Common.{◌≡◌, ◌<◌, ◌≤◌, ◌+◌, ℕ, ℤ, zero, suc, Bool, true, false, not, ◌&&◌, ◌||◌, List, [], ◌∷◌, ◌++◌, map, length, drop, get_or, slice_get, Option, Some, None, if◌then◌else◌, nat_lt, Result, Ok, Err, IfOk, refl, sym, ap, ◌∙◌, subst, arith, append-nil, append_assoc, inl, inr}
+use Rattle.std.proofs.Common.{◌≡◌, ◌<◌, ◌≤◌, ◌+◌, ℕ, ℤ, zero, suc, Bool, true, false, not, ◌&&◌, ◌||◌, List, [], ◌∷◌, ◌++◌, map, length, drop, get_or, slice_get, Some, None, if◌then◌else◌, nat_lt, Result, Ok, Err, IfOk, refl, sym, ap, ◌∙◌, arith, append-nil, append_assoc, inl, inr}
 use Rattle.std.specs.List.{list_any, list_all}
 use Rattle.std.proofs.lemmas.Bool.{cases_Bool, true≢false, and_parts}
 use Rattle.std.proofs.lemmas.Bool.Decides.{nat_tests}
-use Rattle.std.proofs.lemmas.Option.{same_Some, none-some}
+use Rattle.std.proofs.lemmas.Option.{none-some}
 use Rattle.std.proofs.lemmas.List.{drop_all, length-map, get_or-map}
 use denote.Ref.{Bor}
 use Rattle.base_types.specs.declared.memory.Memory.{Memory}
@@ -88,15 +88,15 @@ members_made places ends (m ∷ ms) =
           ∙ (λ k. new_member m.key (sym whole k) ∷ more k)
           ∙ sym (ap (λ (b : Bool). if b then new_member m.key value ∷ rest else rest) (name_passes places m.key [] name))
       | inr other ↦ elim (cases_Bool (is_some_left group)) [
-          | inl some ↦
-              ap (λ (b : Bool). made b (is_none_left group)) other ∙ ap (made false) (none_or_some group ∙ ap not some)
-              ∙ (λ k. new_member m.key (restricted m.value (sym (key_below places m.key ends other some) k)) ∷ more k)
-              ∙ sym (ap (λ (b : Bool). if b then new_member m.key value ∷ rest else rest) (key_passes places m.key ends other ∙ some))
-          | inr none ↦
-              ap (λ (b : Bool). made b (is_none_left group)) other ∙ ap (made false) (none_or_some group ∙ ap not none)
-              ∙ more
-              ∙ sym (ap (λ (b : Bool). if b then new_member m.key value ∷ rest else rest) (key_passes places m.key ends other ∙ none))
-        ]
+        | inl some ↦
+            ap (λ (b : Bool). made b (is_none_left group)) other ∙ ap (made false) (none_or_some group ∙ ap not some)
+            ∙ (λ k. new_member m.key (restricted m.value (sym (key_below places m.key ends other some) k)) ∷ more k)
+            ∙ sym (ap (λ (b : Bool). if b then new_member m.key value ∷ rest else rest) (key_passes places m.key ends other ∙ some))
+        | inr none ↦
+            ap (λ (b : Bool). made b (is_none_left group)) other ∙ ap (made false) (none_or_some group ∙ ap not none)
+            ∙ more
+            ∙ sym (ap (λ (b : Bool). if b then new_member m.key value ∷ rest else rest) (key_passes places m.key ends other ∙ none))
+      ]
     ]
 
 -- ---- a tree
@@ -248,8 +248,8 @@ member_stays members groups k d e f g s text b empty value whole done new is ins
     let name = named_as members k d text b false told named other in
     let some = some_lead g empty bare no' in
     let stays : Some value ≡ member_value (slices g) m =
-        ap Some (made ∙ ap (λ (n : Member Tree). restricted n.value (keeps (slices s))) (any_there members k e d inside) ∙ ap (λ ps. restricted m.value (keeps (slices ps))) same)
-        ∙ sym (ap (λ (b : Bool). if b then Some m.value else (if is_none_left (slices g) then None else Some (restricted m.value (keeps (slices g))))) name ∙ ap (λ (b : Bool). if b then None else Some (restricted m.value (keeps (slices g)))) some) in
+    ap Some (made ∙ ap (λ (n : Member Tree). restricted n.value (keeps (slices s))) (any_there members k e d inside) ∙ ap (λ ps. restricted m.value (keeps (slices ps))) same)
+    ∙ sym (ap (λ (b : Bool). if b then Some m.value else (if is_none_left (slices g) then None else Some (restricted m.value (keeps (slices g))))) name ∙ ap (λ (b : Bool). if b then None else Some (restricted m.value (keeps (slices g)))) some) in
     parts_more member_part (groups_now groups) members k (slices g) m whole done new is group.0 inside group.1 (any_there members k d m inside)
     (longer ∙ ap (λ (n : Member Tree). done ++ new_member n.key value ∷ []) (any_there members k f d inside) ∙ ap (λ o. done ++ with_member_value m o) stays)
 

@@ -1,14 +1,12 @@
 -- Worked rows: elements that a token names in a list of two.
-use Rattle.std.proofs.Common.{◌≡◌, ℕ, List, [], ◌∷◌, Some, None, option_map, option_and_then, codes, refl, sym, ap, ◌∙◌, arith}
+use Rattle.std.proofs.Common.{◌≡◌, ℕ, List, [], ◌∷◌, Some, None, option_and_then, codes, refl, sym, ap, arith}
 use Rattle.std.proofs.lemmas.Fmt.{decimal_digit}
 use Rattle.json_tree.specs.declared.tree.Tree.{Tree}
-use Rattle.json_tree.specs.declared.tree.Tree.TheVariants as v
 use Rattle.json_tree.specs.declared.tree.Item.{Item}
 use Rattle.json_tree.specs.declared.place.Step.{Step}
-use Rattle.json_tree.specs.declared.place.Step.TheVariants.{Key, At}
 use Rattle.json_tree.specs.Places.{below, child_of}
 use Rattle.pointer_select.specs.Naming.{element_from, step_of, place_of}
-use Rattle.pointer_select.proofs.Names.{next_named, list_step, object_step}
+use Rattle.pointer_select.proofs.Names.{next_named}
 
 -- the first and the second element of two
 pub first_of_two : (i j : Item Tree) → element_from 0 (codes "0") (i ∷ j ∷ []) ≡ Some i

@@ -1,5 +1,5 @@
 -- Lawful trees with the same kind at each place are one tree.
-use Rattle.std.proofs.Common.{◌≡◌, ◌⊎◌, ℕ, Bool, true, false, nat_lt, List, [], ◌∷◌, map, Option, Some, None, option_map, option_and_then, refl, sym, ap, ◌∙◌, subst, arith, inl, inr}
+use Rattle.std.proofs.Common.{◌≡◌, ◌⊎◌, ℕ, true, false, nat_lt, List, [], ◌∷◌, map, Option, Some, None, option_map, option_and_then, refl, sym, ap, ◌∙◌, arith, inl, inr}
 use Rattle.std.specs.Ordering.{is_lt}
 use Rattle.std.proofs.lemmas.Bool.{cases_Bool}
 use Rattle.std.proofs.lemmas.Bool.Decides.{nat_tests}
@@ -70,9 +70,9 @@ numbers_apart : (i j : ℕ) → Precedes (At i) (At j) ⊎ (At i ≡ At j) ⊎ P
 numbers_apart i j = elim (cases_Bool (nat_lt i j)) [
   | inl low ↦ inl (sym (nat_lt-cmp i j) ∙ low)
   | inr high ↦ elim (cases_Bool (nat_lt j i)) [
-      | inl back ↦ inr (inr (sym (nat_lt-cmp j i) ∙ back))
-      | inr same ↦ let one : i ≡ j = grind (arith, nat_tests) in inr (inl (ap At one))
-    ]
+    | inl back ↦ inr (inr (sym (nat_lt-cmp j i) ∙ back))
+    | inr same ↦ let one : i ≡ j = grind (arith, nat_tests) in inr (inl (ap At one))
+  ]
 ]
 
 steps_apart : (s r : Step) → Precedes s r ⊎ (s ≡ r) ⊎ Precedes r s

@@ -5,7 +5,7 @@ use Rattle.std.proofs.lemmas.Bool.Decides.{nat_tests}
 use Rattle.base_types.proofs.Lists.{Contains-here, Contains-there, Contains-cons_cases, Contains-nil}
 use Rattle.std.proofs.lemmas.Bool.{cases_Bool, true≢false}
 use Rattle.std.proofs.lemmas.List.{append-nil}
-use Rattle.std.proofs.lemmas.Option.{same_Some, none-some, option_and_then_some}
+use Rattle.std.proofs.lemmas.Option.{same_Some, none-some}
 use Rattle.json_tree.specs.declared.tree.Tree.{Tree, out-Tree, roll-Tree, roll-out-Tree}
 use Rattle.json_tree.specs.declared.tree.Tree.TheOpen.{Tree-F}
 use Rattle.json_tree.specs.declared.tree.Tree.TheVariants as v
@@ -17,12 +17,12 @@ use Rattle.json_tree.specs.Trees.{is_lawful, is_in_range, nesting_of}
 use Rattle.json_tree.specs.WellFormed.{IsWellFormed}
 use Rattle.json_tree.proofs.Everywhere.{in_range-places}
 use Rattle.json_tree.proofs.Kept.{look_lawful}
-use Rattle.json_tree.proofs.LeastMisplaced.{MisplacedUnder, none_misplaced, finds_least}
+use Rattle.json_tree.proofs.LeastMisplaced.{none_misplaced, finds_least}
 use Rattle.json_tree.proofs.Outcomes.{look-append}
 use Rattle.pointer_select.specs.declared.fault.SelectFault.{SelectFault}
 use Rattle.pointer_select.specs.declared.fault.SelectFault.TheVariants.{Missing, Memory}
 use Rattle.pointer_select.specs.Internal.Parts.{Test, restricted, keeps}
-use Rattle.pointer_select.specs.Kept.{IsUpTo, IsKept}
+use Rattle.pointer_select.specs.Kept.{IsKept}
 use Rattle.pointer_select.specs.Naming.{place_of, first_missing}
 use Rattle.pointer_select.specs.Selection.{kind_in, kind_at, IsRestrictedTo, IsSelection, Selects}
 use Rattle.pointer_select.proofs.Keeping.{is_some_left, keeps_any, any_kept, kept_any, keeps_test, keeps_above}
@@ -209,9 +209,9 @@ both_looked place t part fine lawful same None (Some u) e f = absurd (none-some 
 both_looked place t part fine lawful same (Some w) None e f = absurd (none-some (kind_in (out-Tree w)) (sym (ap (option_map (λ u. kind_in (out-Tree u))) f) ∙ sym (at_place place t part same) ∙ ap (option_map (λ u. kind_in (out-Tree u))) e))
 both_looked place t part fine lawful same (Some w) (Some u) e f =
     let below : (more : List Step) → kind_at more w ≡ kind_at more u = λ more.
-        ap (option_map (λ u. kind_in (out-Tree u))) (sym (look-append place more part ∙ ap (option_and_then (look more)) e))
-        ∙ same more
-        ∙ ap (option_map (λ u. kind_in (out-Tree u))) (look-append place more t ∙ ap (option_and_then (look more)) f) in
+    ap (option_map (λ u. kind_in (out-Tree u))) (sym (look-append place more part ∙ ap (option_and_then (look more)) e))
+    ∙ same more
+    ∙ ap (option_map (λ u. kind_in (out-Tree u))) (look-append place more t ∙ ap (option_and_then (look more)) f) in
     ap Some (one_of_kinds w u (look_lawful place part w lawful e) (look_lawful place t u fine f) below)
 
 -- what stands at a pointed place is what stood there

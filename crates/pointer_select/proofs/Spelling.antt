@@ -1,6 +1,6 @@
 -- A pointer names a place that leads somewhere, and in a tree whose elements are numbered from 0 it is
 -- the JSON Pointer of this place.
-use Rattle.std.proofs.Common.{◌≡◌, ◌≢◌, ◌<◌, ◌+◌, ◌%◌, ◌^◌, ◌==◌, ℕ, Bool, true, false, nat_lt, cond, if◌then◌else◌, List, [], ◌∷◌, ◌++◌, map, Option, Some, None, option_map, option_and_then, find, refl, sym, ap, ◌∙◌, subst, arith, decimal, append-nil, inl, inr}
+use Rattle.std.proofs.Common.{◌≡◌, ◌≢◌, ◌<◌, ◌+◌, ◌%◌, ◌^◌, ℕ, Bool, true, nat_lt, cond, if◌then◌else◌, List, [], ◌∷◌, ◌++◌, map, Option, Some, None, option_map, option_and_then, find, refl, sym, ap, ◌∙◌, arith, decimal, inl, inr}
 use Rattle.std.specs.List.{flat_map}
 use Rattle.std.specs.Str.{bytes_eq}
 use Rattle.std.proofs.lemmas.Bool.{cases_Bool, and_parts}
@@ -39,7 +39,6 @@ plain_decimal = decimal_by_steps (λ n ds. flat_map escaped ds ≡ ds)
 
 abbrev IsNumbered : Tree → Type 0
 IsNumbered t = renumbered t ≡ t
-
 
 same_items : (xs ys : List (Item Tree)) → v.List xs ≡ v.List ys → xs ≡ ys
 same_items xs ys e = same_Some xs ys (sym (ap items_in (v.outs-List xs)) ∙ ap items_of e ∙ ap items_in (v.outs-List ys))

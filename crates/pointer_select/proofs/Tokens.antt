@@ -5,7 +5,7 @@ use Rattle.std.proofs.lemmas.Bool.Decides.{nat_tests}
 use Rattle.std.proofs.Concat.{length-encode_pos}
 use lib.Utf8.{encode}
 use Rattle.base_types.proofs.Utf8.{encode-wide, encode-narrow}
-use Rattle.pointer_select.specs.Internal.Reading.{meant, tokens_from, first_bad_escape}
+use Rattle.pointer_select.specs.Internal.Reading.{meant, tokens_from}
 
 -- ---- one character
 

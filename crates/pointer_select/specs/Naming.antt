@@ -1,5 +1,5 @@
 -- The place that a pointer names in a tree. RFC 6901, section 4.
-use Rattle.std.specs.Prelude.{ℕ, ◌+◌, List, [], ◌∷◌, map, Option, Some, None, option_map, option_and_then, find, position, is_none, if◌then◌else◌, decimal}
+use Rattle.std.specs.Prelude.{ℕ, ◌+◌, List, [], ◌∷◌, Option, Some, None, option_map, option_and_then, find, position, is_none, if◌then◌else◌, decimal}
 use Rattle.std.specs.Str.{bytes_eq}
 use Rattle.json_tree.specs.declared.tree.Tree.{Tree, out-Tree}
 use Rattle.json_tree.specs.declared.tree.Tree.TheOpen.{Tree-F}

@@ -59,11 +59,7 @@ fn element_named<'a>(
 
 /// The step that a token names, and what stands there.
 #[tactic(auto, using(crate::proofs::Names::named))]
-fn child_named<'a>(
-    alloc: Global,
-    tree: &'a Tree,
-    token: &str,
-) -> Result<Option<Child<'a>>, Memory>
+fn child_named<'a>(alloc: Global, tree: &'a Tree, token: &str) -> Result<Option<Child<'a>>, Memory>
     requires { is_lawful tree.now ≡ true }
     ensures step { IfOk result (λ found.
         option_map (λ c. c.step) found ≡ step_of tree.now token.now) }

@@ -18,6 +18,7 @@ impl Model for Pointer {
     ghost use Rattle.std.specs.Prelude.{List, ℕ};
 
     ghost Value = { List (List ℕ) };
+
     ghost view = { λ p. p.tokens };
 }
 

@@ -101,7 +101,9 @@ pub(crate) fn tokens_of(alloc: Global, text: &str) -> Result<Sequence<Text>, Mem
         take(alloc, &mut reading, character)?;
     }
     let Reading {
-        mut tokens, token, ..
+        mut tokens,
+        token,
+        ..
     } = reading;
     tokens.push(token)?;
     Ok(tokens)

@@ -26,11 +26,7 @@ use std::alloc::Global;
 ///
 /// `Missing`: this pointer names no place, and is the first that names none. `Memory`: there is no
 /// memory for the part.
-pub fn select(
-    alloc: Global,
-    tree: &Tree,
-    pointers: &[Pointer],
-) -> Result<Option<Tree>, SelectFault>
+pub fn select(alloc: Global, tree: &Tree, pointers: &[Pointer]) -> Result<Option<Tree>, SelectFault>
     requires { is_lawful tree.now ≡ true }
     ensures outcome { Selects pointers.now tree.now result }
     ensures well_formed { IsWellFormed tree.now

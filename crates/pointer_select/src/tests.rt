@@ -5,7 +5,8 @@ use std::alloc::Global;
 use std::test::Fail;
 
 /// The example document of RFC 6901, section 5.
-const RFC: &str = "{\"foo\":[\"bar\",\"baz\"],\"\":0,\"a/b\":1,\"c%d\":2,\"e^f\":3,\"g|h\":4,\"i\\\\j\":5,\"k\\\"l\":6,\" \":7,\"m~n\":8}";
+const RFC: &str =
+    "{\"foo\":[\"bar\",\"baz\"],\"\":0,\"a/b\":1,\"c%d\":2,\"e^f\":3,\"g|h\":4,\"i\\\\j\":5,\"k\\\"l\":6,\" \":7,\"m~n\":8}";
 
 /// Its pointers, each with the part that it selects.
 const EXAMPLES: [(&str, &str); 12] = [
@@ -27,10 +28,12 @@ const EXAMPLES: [(&str, &str); 12] = [
 ];
 
 /// A document with a list, a member whose name has a `/`, and an id.
-const LISTS: &str = "{\"@context\":\"https://ex.org/l\",\"@id\":\"urn:a\",\"a/b\":\"s\",\"list\":[\"x\",\"y\"],\"x\":[\"m\",\"n\"]}";
+const LISTS: &str =
+    "{\"@context\":\"https://ex.org/l\",\"@id\":\"urn:a\",\"a/b\":\"s\",\"list\":[\"x\",\"y\"],\"x\":[\"m\",\"n\"]}";
 
 /// Objects on the way and beside it, with kept names.
-const NAMES: &str = "{\"@context\":{\"t\":1},\"a\":{\"b\":{\"@id\":\"urn:b\",\"@type\":[\"U\"],\"c\":1,\"d\":{\"id\":\"urn:d\"}},\"e\":{\"f\":3,\"id\":\"urn:e\"},\"id\":\"urn:a\",\"type\":\"T\"},\"g\":{\"@context\":\"h\"},\"type\":{\"v\":[1]}}";
+const NAMES: &str =
+    "{\"@context\":{\"t\":1},\"a\":{\"b\":{\"@id\":\"urn:b\",\"@type\":[\"U\"],\"c\":1,\"d\":{\"id\":\"urn:d\"}},\"e\":{\"f\":3,\"id\":\"urn:e\"},\"id\":\"urn:a\",\"type\":\"T\"},\"g\":{\"@context\":\"h\"},\"type\":{\"v\":[1]}}";
 
 /// Names that look like escapes and like indexes.
 const ODD: &str = "{\"/\":1,\"0\":{\"0\":[[2,3]]},\"01\":4,\"~1\":5}";
@@ -248,12 +251,18 @@ fn faults_say_why(rt: HostRuntime) -> Result<(), Fail> {
             format!(in rt.alloc(); "{}", PointerFault::BadPointer(3))?,
             "no JSON Pointer: it fails at byte 3",
         ),
-        (format!(in rt.alloc(); "{}", PointerFault::Memory)?, "out of memory"),
+        (
+            format!(in rt.alloc(); "{}", PointerFault::Memory)?,
+            "out of memory",
+        ),
         (
             format!(in rt.alloc(); "{}", SelectFault::Missing(2))?,
             "pointer 2 names no place",
         ),
-        (format!(in rt.alloc(); "{}", SelectFault::Memory)?, "out of memory"),
+        (
+            format!(in rt.alloc(); "{}", SelectFault::Memory)?,
+            "out of memory",
+        ),
     ] {
         assert_eq!(rt; shown.as_str(), expected);
     }

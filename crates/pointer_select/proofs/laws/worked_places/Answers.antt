@@ -1,4 +1,4 @@
-use Rattle.std.proofs.Common.{[], ◌∷◌, Some, codes, option_map, refl, ap, sym, ◌∙◌}
+use Rattle.std.proofs.Common.{[], ◌∷◌, codes, option_map, ap, sym, ◌∙◌}
 use Rattle.json_tree.specs.declared.tree.Item.{Item}
 use Rattle.json_tree.specs.declared.tree.Tree.{Tree}
 use Rattle.json_tree.specs.declared.place.Step.TheVariants.{Key, At}

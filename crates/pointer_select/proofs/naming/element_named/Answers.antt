@@ -1,5 +1,4 @@
-use Rattle.std.proofs.Common.{◌≡◌, Some, slice_get, sym, ◌∙◌, arith}
-use Rattle.pointer_select.specs.Internal.Reading.{IsIndex}
+use Rattle.std.proofs.Common.{◌∙◌, arith}
 use Rattle.pointer_select.proofs.Names.{element_at, element_nowhere, token_is, token_is_none, there_is, there_is_none}
 use Rattle.pointer_select.proofs.naming.element_named.Goals as goal
 

@@ -1,4 +1,4 @@
-use Rattle.std.proofs.Common.{◌≡◌, Ok, sym, ap, ◌∙◌, decimal}
+use Rattle.std.proofs.Common.{◌≡◌, sym, ap, ◌∙◌, decimal}
 use Rattle.std.proofs.lemmas.Bool.{true≢false}
 use Rattle.std.proofs.lemmas.Fmt.{parse-decimal}
 use Rattle.base_types.proofs.Orders.{bytes_eq-same}

@@ -1,4 +1,4 @@
-use Rattle.std.proofs.Common.{◌≡◌, ◌<◌, ℕ, List, length, get_or, sym, subst, ap, ◌∙◌}
+use Rattle.std.proofs.Common.{◌<◌, ℕ, List, length, get_or, subst, ap, ◌∙◌}
 use Rattle.json_tree.proofs.Kept.{child_lawful}
 use Rattle.pointer_select.specs.Naming.{step_of}
 use Rattle.pointer_select.proofs.Names.{place_more, child_step, child_there}

@@ -1,4 +1,4 @@
-use Rattle.std.proofs.Common.{◌≡◌, ℕ, Some, ap, ◌∙◌}
+use Rattle.std.proofs.Common.{◌≡◌, Some, ap, ◌∙◌}
 use Rattle.pointer_select.proofs.Names.{missing_first, no_steps}
 use Rattle.pointer_select.proofs.naming.places_of.Goals as goal
 

@@ -1,4 +1,4 @@
-use Rattle.std.proofs.Common.{◌≡◌, ◌<◌, length, arith}
+use Rattle.std.proofs.Common.{◌<◌, length, arith}
 use Rattle.std.proofs.lemmas.List.{nil_from_length}
 use Rattle.pointer_select.specs.Internal.Parts.{steps_of}
 use Rattle.pointer_select.proofs.Groups.{group_end, group_none, group_grown, only_within}
