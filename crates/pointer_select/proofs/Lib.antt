@@ -1,0 +1,15 @@
+pub mod Tokens
+pub mod Grammar
+pub mod Indexes
+pub mod Names
+pub mod Spelling
+pub mod StepTests
+pub mod Restricted
+pub mod SameKinds
+pub mod Nesting
+pub mod Keeping
+pub mod Children
+pub mod Groups
+pub mod PartLemmas
+pub mod Selections
+pub mod Rows
