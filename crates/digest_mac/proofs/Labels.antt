@@ -31,7 +31,7 @@ length-multibase_text bytes =
     )
 
 -- a keyed digest has as many bytes as its hash says
-length-keyed_digest : (hash : Hash) (key text : List ℕ) → length (keyed_digest hash key text) ≡ digest_size hash
+pub length-keyed_digest : (hash : Hash) (key text : List ℕ) → length (keyed_digest hash key text) ≡ digest_size hash
 unfolding keyed_digest
 length-keyed_digest hash key text = length-digest hash _
 

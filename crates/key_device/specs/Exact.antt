@@ -1,5 +1,6 @@
--- That a ledger means its log. These are lemmas, of which nothing need be believed; they stand here
--- since a law of a trait cites `specs` alone.
+-- That an exact device means its log: a ledger, and one that fails over an exact one. These are
+-- lemmas, of which nothing need be believed; they stand here since a law of a trait cites `specs`
+-- alone.
 use Rattle.std.specs.Prelude.{◌≡◌, ℕ, true, List, Contains}
 use Rattle.std.specs.Str.{bytes_eq}
 use Rattle.std.proofs.Common.{ap, refl, ◌∙◌}
@@ -12,7 +13,8 @@ use Rattle.base_types.proofs.Orders.{bytes_eq-same, bytes_eq-true}
 use Rattle.key_device.specs.declared.keys.KeyName.{KeyName}
 use Rattle.key_device.specs.declared.keys.Signature.{Signature}
 use Rattle.key_device.specs.declared.device.SignedEntry.{SignedEntry}
-use Rattle.key_device.specs.Devices.{MeansItsLog, log_entry}
+use Rattle.key_device.specs.Devices.{DeviceMeaning, MeansItsLog, log_entry}
+use Rattle.key_device.specs.FailingDevices.{FailingState, failing_meaning}
 use Rattle.key_device.specs.Ledgers.{Ledger, has_key, has_entry, is_entry, ledger_meaning}
 
 abbrev key_of : List ℕ → KeyName
@@ -73,4 +75,14 @@ ledger_means_its_log d all = record {
   owned = λ e c. rw (← c.2)
       (All-get_or (λ x. has_key d.keys x.key ≡ true) d.log c.0 e c.1
       (AllPass-from_list_all (λ x. has_key d.keys x.key) d.log all));
+}
+
+-- a device that fails over one which means its log means the same log
+pub failing_means_its_log : {D : Type 0} (means : D → DeviceMeaning) (d : FailingState D)
+    → MeansItsLog (means d.inner) → MeansItsLog (failing_meaning means d)
+failing_means_its_log means d log = record {
+  entries = log.entries;
+  told = log.told;
+  accepted = log.accepted;
+  owned = log.owned;
 }
