@@ -1,5 +1,6 @@
 -- The rows grouped by first-degree hash.
-use Rattle.std.proofs.Common.{◌≡◌, ℕ, zero, suc, arith, ◌+◌, ◌<◌, List, [], ◌∷◌, ◌++◌, map, length, get_or, All, Contains, Option, Some, None, option_map, slice_get, refl, sym, ap, ◌∙◌, subst, add-one}
+use Rattle.std.proofs.Common.{◌≡◌, ℕ, zero, suc, arith, ◌+◌, ◌<◌, List, [], ◌∷◌, ◌++◌, map, flat_map, length, replicate, get_or, All, Contains, Option, Some, None, option_map, slice_get, refl, sym, ap, ◌∙◌, subst, add-one, append-nil}
+use Rattle.std.proofs.lemmas.Grind.{flat_map-append}
 use Rattle.std.proofs.lemmas.List.{map-append}
 use Rattle.std.proofs.lemmas.List.Elements.{Contains-get_or}
 use Rattle.base_types.proofs.Lists.{Contains-map}
@@ -8,7 +9,7 @@ use Rattle.digest_mac.specs.declared.hash.Hash.TheVariants.{Sha256}
 use Rattle.rdfc_ndegree.specs.declared.related.HashedNode.{HashedNode}
 use Rattle.rdfc_ndegree.specs.declared.related.NodeGroup.{NodeGroup}
 use Rattle.rdfc_ndegree.specs.Table.{NodeRow}
-use Rattle.rdfc_ndegree.specs.Internal.Grouping.{node_hash, row_hash}
+use Rattle.rdfc_ndegree.specs.Internal.Grouping.{node_hashes, row_hash}
 use Rattle.rdfc_ndegree.specs.Table.{group_in}
 use Rattle.rdfc_ndegree.specs.Run.{with_first_hash, first_groups}
 use Rattle.rdfc_ndegree.specs.Table.{numbers_below, first_in, table_nodes}
@@ -36,13 +37,13 @@ pub first-there : {A : Type 0} (rows : List NodeRow) (n end : ℕ) → n < end �
 first-there rows n end lt e none = some_if rows n end (slice_get rows n) refl lt e none
 
 module _ (rows : List NodeRow) where
-  pub rows-next : (hs new : List HashedNode) (n : ℕ) (first : List ℕ) (h : HashedNode) → map node_hash hs ≡ map (row_hash rows) (numbers_below n)
-      → Some first ≡ option_map (λ (r : NodeRow). r.first) (slice_get rows n) → h.hash ≡ first → h.node ≡ n → new ≡ hs ++ h ∷ []
-      → map node_hash new ≡ map (row_hash rows) (numbers_below (n + 1))
-  rows-next hs new n first h done is hash node pushed =
+  pub rows-next : (hs new : List HashedNode) (n : ℕ) (first : List ℕ) (h : HashedNode) → flat_map node_hashes hs ≡ map (row_hash rows) (numbers_below n)
+      → Some first ≡ option_map (λ (r : NodeRow). r.first) (slice_get rows n) → h.hash ≡ first → h.node ≡ n → h.count ≡ 1 → new ≡ hs ++ h ∷ []
+      → flat_map node_hashes new ≡ map (row_hash rows) (numbers_below (n + 1))
+  rows-next hs new n first h done is hash node count pushed =
       let whole : h.hash ≡ first_in (slice_get rows n) = hash ∙ first_if (slice_get rows n) first is in
-      let last : node_hash h ≡ row_hash rows n = λ i. record { hash = whole i; node = node i } in
-      ap (map node_hash) pushed ∙ map-append node_hash hs (h ∷ []) ∙ (λ i. done i ++ last i ∷ [])
+      let last : node_hashes h ≡ row_hash rows n ∷ [] = λ i. replicate (count i) (record { hash = whole i; node = node i }) in
+      ap (flat_map node_hashes) pushed ∙ flat_map-append node_hashes hs (h ∷ []) ∙ (λ i. done i ++ (append-nil (node_hashes h) ∙ last) i)
       ∙ sym (map-append (row_hash rows) (numbers_below n) (n ∷ []))
       ∙ ap (λ k. map (row_hash rows) (numbers_below k)) (sym (add-one n))
 

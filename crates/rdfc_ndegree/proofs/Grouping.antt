@@ -1,5 +1,5 @@
--- Nodes grouped by hash: one more at the end, a stable sort, and where the members come from.
-use Rattle.std.proofs.Common.{◌≡◌, ℕ, suc, ◌+◌, ◌<◌, List, [], ◌∷◌, ◌++◌, map, filter, length, get_or, take, take-suc, refl, sym, ap, ◌∙◌, subst, inl, inr, ⊎_elim, add-one, arith, Bool, true, false, cond, not, ◌&&◌}
+-- Nodes grouped by hash: more at the end, a stable sort, and where the members come from.
+use Rattle.std.proofs.Common.{◌≡◌, ℕ, suc, ◌+◌, ◌<◌, List, [], ◌∷◌, ◌++◌, map, filter, flat_map, length, replicate, get_or, take, take-suc, zero, append-nil, append_assoc, refl, sym, ap, ◌∙◌, subst, inl, inr, ⊎_elim, add-one, arith, Bool, true, false, cond, not, ◌&&◌}
 use Rattle.std.specs.Prelude.{◌⊎◌, Contains}
 use Rattle.std.specs.Str.{bytes_eq}
 use Rattle.std.specs.List.{AllByRecursion}
@@ -7,17 +7,19 @@ use Rattle.std.specs.List.Sorted.{IsPermutation, IsStrictlySortedBy, IsSortedByK
 use Rattle.std.specs.Cmp.Lexicographic.{nat_list_cmp_total, nat_list_eq_equiv}
 use Rattle.std.specs.Ordering.{is_le, is_lt, is_eq, ordering_reverse}
 use Rattle.std.specs.declared.cmp.Ordering.TheVariants.{Less}
+use Rattle.std.proofs.lemmas.Grind.{flat_map-append}
+use Rattle.std.proofs.lemmas.List.Elements.{filter-append, recursion_from_All, All-replicate}
 use Rattle.std.proofs.lemmas.List.{map-append, get_or-take, length-take-le, get_or_default}
 use Rattle.std.proofs.lemmas.List.Sorted.{IsPermutation-to_front, IsPermutation-sym, IsPermutation-map, Contains-permutation, sorted_far, ranks_by}
 use Rattle.base_types.specs.Order.{is_upto, put_once, sorted_set}
 use Rattle.base_types.specs.Sets.{SameElements}
 use Rattle.base_types.proofs.Lists.{Contains-here, Contains-there, Contains-cons_cases, Contains-nil, AllByRecursion-contains}
-use Rattle.base_types.proofs.Orders.{text_cmp, is_upto-cmp, bytes_eq-cmp, by_cmp, less_upto, upto_if, bytes_eq-true, bytes_eq-same}
+use Rattle.base_types.proofs.Orders.{text_cmp, is_upto-cmp, is_upto-refl, bytes_eq-cmp, by_cmp, less_upto, upto_if, bytes_eq-true, bytes_eq-same}
 use Rattle.base_types.proofs.Rising.{rising-rises, rising-same, rising-free}
 use Rattle.rdfc_ndegree.specs.Groups.{NodeHash, Group, group_of, groups_by_hash}
-use Rattle.rdfc_ndegree.specs.Internal.Grouping.{group_of_one, add_to_groups, node_hash}
+use Rattle.rdfc_ndegree.specs.Internal.Grouping.{group_of_one, add_to_groups, add_each, node_hash, node_hashes}
 use Rattle.rdfc_ndegree.specs.declared.related.HashedNode.{HashedNode}
-use Rattle.rdfc_ndegree.proofs.Permutations.{Each-from_contains, filter-map_each}
+use Rattle.rdfc_ndegree.proofs.Permutations.{Each-append, Each-from_contains, IsPermutation-flat_map}
 
 -- ---- comparisons of hashes
 
@@ -127,6 +129,13 @@ module _ {B : Type 0} where
       let fresh : Contains (sorted_set ts) h.hash ⊎ (with_hash h.hash done ≡ []) = ⊎_elim (λ c. inl ((rising-same ts h.hash).1 c)) (λ n. inr n) (hash-there done h.hash) in
       added-each done h (sorted_set ts) (rising-rises ts) below fresh ∙ ap (map (group_of (done ++ h ∷ []))) (sym order)
 
+  -- a node several times, after all others
+  pub grouped-each : (n : ℕ) (done : List (NodeHash B)) (h : NodeHash B) → AllByRecursion (λ (d : NodeHash B). is_upto d.hash h.hash ≡ true) done → add_each (groups_by_hash done) (replicate n h) ≡ groups_by_hash (done ++ replicate n h)
+  grouped-each zero done h all = ap groups_by_hash (sym (append-nil done))
+  grouped-each (suc n) done h all =
+      let more = Each-append (λ (d : NodeHash B). is_upto d.hash h.hash ≡ true) done (h ∷ []) all (is_upto-refl h.hash, tt) in
+      ap (λ gs. add_each gs (replicate n h)) (grouped-push done h all) ∙ grouped-each n (done ++ h ∷ []) h more ∙ ap groups_by_hash (append_assoc done (h ∷ []) (replicate n h))
+
   -- ---- lists with the same nodes under each hash
 
   map-alike : (xs ys : List (NodeHash B)) (ts : List (List ℕ)) → ((t : List ℕ) → with_hash t xs ≡ with_hash t ys) → map (group_of xs) ts ≡ map (group_of ys) ts
@@ -151,38 +160,57 @@ module _ {B : Type 0} where
 
 -- ---- what a stable sort leaves
 
-with-kept : (t : List ℕ) (xs : List HashedNode) → filter (λ (h : NodeHash ℕ). bytes_eq h.hash t) (map node_hash xs) ≡ map node_hash (filter (λ (h : HashedNode). bytes_eq h.hash t) xs)
-with-kept t xs = filter-map_each node_hash (λ (h : NodeHash ℕ). bytes_eq h.hash t) xs
+filter-copies_yes : {X : Type 0} (p : X → Bool) (n : ℕ) (x : X) → p x ≡ true → filter p (replicate n x) ≡ replicate n x
+filter-copies_yes p zero x e = refl
+filter-copies_yes p (suc n) x e = rw e (ap (λ xs. x ∷ xs) (filter-copies_yes p n x e))
+
+filter-copies_no : {X : Type 0} (p : X → Bool) (n : ℕ) (x : X) → p x ≡ false → filter p (replicate n x) ≡ []
+filter-copies_no p zero x e = refl
+filter-copies_no p (suc n) x e = rw e (filter-copies_no p n x e)
+
+abbrev node_with_hash : List ℕ → List HashedNode → List HashedNode
+node_with_hash t xs = filter (λ (h : HashedNode). bytes_eq h.hash t) xs
+
+with-kept : (t : List ℕ) (xs : List HashedNode) → with_hash t (flat_map node_hashes xs) ≡ flat_map node_hashes (node_with_hash t xs)
+with-kept t [] = refl
+with-kept t (x ∷ xs) = filter-append is_with (node_hashes x) (flat_map node_hashes xs) ∙ (λ i. with_hash t (node_hashes x) ++ with-kept t xs i) ∙ go (bytes_eq x.hash t) refl
+  where
+    is_with : NodeHash ℕ → Bool
+    is_with h = bytes_eq h.hash t
+
+    go : (b : Bool) → bytes_eq x.hash t ≡ b → with_hash t (node_hashes x) ++ flat_map node_hashes (node_with_hash t xs) ≡ flat_map node_hashes (node_with_hash t (x ∷ xs))
+    go true e = ap (λ hs. hs ++ flat_map node_hashes (node_with_hash t xs)) (filter-copies_yes is_with x.count (node_hash x) e) ∙ rw e refl
+    go false e = ap (λ hs. hs ++ flat_map node_hashes (node_with_hash t xs)) (filter-copies_no is_with x.count (node_hash x) e) ∙ rw e refl
 
 -- nodes have the same groups after a stable sort by hash
-pub grouped-stable : (xs ys : List HashedNode) → IsPermutation xs ys → IsStableByKey (λ (h : HashedNode). h.hash) text_cmp xs ys → groups_by_hash (map node_hash ys) ≡ groups_by_hash (map node_hash xs)
-grouped-stable xs ys moved stable = grouped-alike (map node_hash ys) (map node_hash xs) same each
+pub grouped-stable : (xs ys : List HashedNode) → IsPermutation xs ys → IsStableByKey (λ (h : HashedNode). h.hash) text_cmp xs ys → groups_by_hash (flat_map node_hashes ys) ≡ groups_by_hash (flat_map node_hashes xs)
+grouped-stable xs ys moved stable = grouped-alike (flat_map node_hashes ys) (flat_map node_hashes xs) same each
   where
     node_with : List ℕ → HashedNode
-    node_with t = record { hash = t; node = 0 }
+    node_with t = record { hash = t; node = 0; count = 0 }
 
-    tied : (t : List ℕ) (zs : List HashedNode) → filter (ties (λ (x y : HashedNode). is_lt (text_cmp x.hash y.hash)) (node_with t)) zs ≡ filter (λ (h : HashedNode). bytes_eq h.hash t) zs
+    tied : (t : List ℕ) (zs : List HashedNode) → filter (ties (λ (x y : HashedNode). is_lt (text_cmp x.hash y.hash)) (node_with t)) zs ≡ node_with_hash t zs
     tied t zs = filter-alike _ _ zs (λ (h : HashedNode). ties-same t h.hash)
 
-    each : (t : List ℕ) → with_hash t (map node_hash ys) ≡ with_hash t (map node_hash xs)
-    each t = with-kept t ys ∙ ap (map node_hash) (sym (tied t ys) ∙ stable (node_with t) ∙ tied t xs) ∙ sym (with-kept t xs)
+    each : (t : List ℕ) → with_hash t (flat_map node_hashes ys) ≡ with_hash t (flat_map node_hashes xs)
+    each t = with-kept t ys ∙ ap (flat_map node_hashes) (sym (tied t ys) ∙ stable (node_with t) ∙ tied t xs) ∙ sym (with-kept t xs)
 
-    moved_hashes : IsPermutation (hashes (map node_hash xs)) (hashes (map node_hash ys))
-    moved_hashes = IsPermutation-map (λ (h : NodeHash ℕ). h.hash) (map node_hash xs) (map node_hash ys) (IsPermutation-map node_hash xs ys moved)
+    moved_hashes : IsPermutation (hashes (flat_map node_hashes xs)) (hashes (flat_map node_hashes ys))
+    moved_hashes = IsPermutation-map (λ (h : NodeHash ℕ). h.hash) (flat_map node_hashes xs) (flat_map node_hashes ys) (IsPermutation-flat_map node_hashes xs ys moved)
 
-    same : SameElements (hashes (map node_hash ys)) (hashes (map node_hash xs))
+    same : SameElements (hashes (flat_map node_hashes ys)) (hashes (flat_map node_hashes xs))
     same t = (Contains-permutation _ _ t (IsPermutation-sym _ _ moved_hashes), Contains-permutation _ _ t moved_hashes)
 
 all-from : {X : Type 0} (P : X → Type 0) (xs : List X) (d : X) → ((i : ℕ) → i < length xs → P (get_or xs i d)) → AllByRecursion P xs
 all-from P [] d each = tt
 all-from P (x ∷ xs) d each = (each 0 (omega arith), all-from P xs d (λ i in'. each (suc i) (omega arith)))
 
-all-kept : (P : NodeHash ℕ → Type 0) (xs : List HashedNode) → AllByRecursion (λ (h : HashedNode). P (node_hash h)) xs → AllByRecursion P (map node_hash xs)
+all-kept : (P : NodeHash ℕ → Type 0) (xs : List HashedNode) → AllByRecursion (λ (h : HashedNode). P (node_hash h)) xs → AllByRecursion P (flat_map node_hashes xs)
 all-kept P [] all = tt
-all-kept P (x ∷ xs) all = (all.0, all-kept P xs all.1)
+all-kept P (x ∷ xs) all = Each-append P (node_hashes x) (flat_map node_hashes xs) (recursion_from_All P (node_hashes x) (All-replicate P x.count (node_hash x) all.0)) (all-kept P xs all.1)
 
 -- of nodes in hash order, the next one added to the groups of the first k gives those of k + 1
-pub grouped-next : (ys : List HashedNode) (k : ℕ) (h d : HashedNode) → k < length ys → h ≡ get_or ys k d → IsSortedByKey (λ (x : HashedNode). x.hash) text_cmp ys → add_to_groups (groups_by_hash (map node_hash (take k ys))) (node_hash h) ≡ groups_by_hash (map node_hash (take (k + 1) ys))
+pub grouped-next : (ys : List HashedNode) (k : ℕ) (h d : HashedNode) → k < length ys → h ≡ get_or ys k d → IsSortedByKey (λ (x : HashedNode). x.hash) text_cmp ys → add_each (groups_by_hash (flat_map node_hashes (take k ys))) (node_hashes h) ≡ groups_by_hash (flat_map node_hashes (take (k + 1) ys))
 grouped-next ys k h d in' at up =
     let is : h ≡ get_or ys k h = at ∙ get_or_default ys k d h in' in
     let len : length (take k ys) ≡ k = length-take-le k ys (omega arith) in
@@ -194,4 +222,6 @@ grouped-next ys k h d in' at up =
     subst (λ (x : HashedNode). is_upto (get_or (take k ys) i h).hash x.hash ≡ true) (sym is) (subst (λ (x : HashedNode). is_upto x.hash (get_or ys k h).hash ≡ true) (sym seen) upto) in
     let all = all-kept (λ (d : NodeHash ℕ). is_upto d.hash h.hash ≡ true) (take k ys) (all-from (λ (x : HashedNode). is_upto x.hash h.hash ≡ true) (take k ys) h far) in
     let longer : take (k + 1) ys ≡ take k ys ++ h ∷ [] = rw add-one (take-suc ys k h in' ∙ ap (λ x. take k ys ++ x ∷ []) (sym is)) in
-    grouped-push (map node_hash (take k ys)) (node_hash h) all ∙ ap groups_by_hash (sym (ap (map node_hash) longer ∙ map-append node_hash (take k ys) (h ∷ [])))
+    let whole : flat_map node_hashes (take (k + 1) ys) ≡ flat_map node_hashes (take k ys) ++ node_hashes h =
+    ap (flat_map node_hashes) longer ∙ flat_map-append node_hashes (take k ys) (h ∷ []) ∙ ap (λ hs. flat_map node_hashes (take k ys) ++ hs) (append-nil (node_hashes h)) in
+    grouped-each h.count (flat_map node_hashes (take k ys)) (node_hash h) all ∙ ap groups_by_hash (sym whole)

@@ -1,7 +1,8 @@
 -- The related nodes of a row with their hashes, and the groups that they give.
-use Rattle.std.proofs.Common.{◌≡◌, ℕ, ◌+◌, ◌<◌, List, [], ◌∷◌, ◌++◌, map, length, get_or, take, take-suc, add-one, refl, sym, ap, ◌∙◌, subst, Option, Some, None}
+use Rattle.std.proofs.Common.{◌≡◌, ℕ, ◌-◌, ◌<◌, List, [], ◌∷◌, ◌++◌, map, flat_map, length, replicate, take, append-nil, refl, sym, ap, ◌∙◌, subst, Option, Some, None}
 use Rattle.std.specs.Prelude.{All, slice_get}
 use Rattle.std.specs.List.{AllByRecursion}
+use Rattle.std.proofs.lemmas.Grind.{flat_map-append}
 use Rattle.std.proofs.lemmas.List.{map-append}
 use Rattle.std.proofs.lemmas.Option.{slice_get_within, get_or_from_slice_get}
 use Rattle.std.proofs.lemmas.List.Elements.{recursion_from_All, All-from_recursion}
@@ -10,12 +11,13 @@ use Rattle.digest_mac.specs.declared.hash.Hash.{Hash}
 use Rattle.rdfc_ndegree.specs.Nodes.{Occurrence}
 use Rattle.rdfc_ndegree.specs.Groups.{NodeHash, Group, position_text, identifier_or_hash, related_hash, with_related_hash, groups_by_hash, related_groups}
 use Rattle.rdfc_ndegree.specs.Table.{occurrence_of, related_in_row, table_nodes, IsClosed}
-use Rattle.rdfc_ndegree.specs.Internal.Grouping.{node_hash}
+use Rattle.rdfc_ndegree.specs.Internal.Grouping.{IsAlikeUntil, node_hashes}
 use Rattle.rdfc_ndegree.specs.Table.{group_in}
 use Rattle.rdfc_ndegree.specs.declared.related.HashedNode.{HashedNode}
 use Rattle.rdfc_ndegree.specs.declared.related.NodeGroup.{NodeGroup}
 use Rattle.rdfc_ndegree.specs.Table.{NodeRow}
 use Rattle.rdfc_ndegree.specs.Table.{Related}
+use Rattle.rdfc_ndegree.proofs.Alikes.{map-copies}
 use Rattle.rdfc_ndegree.proofs.Grouping.{grouped-all}
 
 module _ (algorithm : Hash) (rows : List NodeRow) (c i : List ℕ) where
@@ -28,15 +30,14 @@ module _ (algorithm : Hash) (rows : List NodeRow) (c i : List ℕ) where
   hash-made o hash seen text place fresh digest same whole front empty =
       digest ∙ ap (digits algorithm) (same ∙ whole ∙ ap (λ p. p ++ identifier_or_hash (table_nodes algorithm rows) c i o.blank) (front ∙ ap (λ f. f ++ position_text o.position o.predicate) empty))
 
-  pub hashed-next : (os : List (Occurrence ℕ)) (k : ℕ) (o : Occurrence ℕ) (hs new : List HashedNode) (h : HashedNode) → Some o ≡ slice_get os k
-      → map node_hash hs ≡ map (with_related_hash (table_nodes algorithm rows) c i) (take k os) → new ≡ hs ++ h ∷ [] → node_hash h ≡ with_related_hash (table_nodes algorithm rows) c i o
-      → map node_hash new ≡ map (with_related_hash (table_nodes algorithm rows) c i) (take (k + 1) os)
-  hashed-next os k o hs new h at so_far push made =
-      let in' : k < length os = slice_get_within os k o (sym at) in
-      let is : o ≡ get_or os k o = sym (get_or_from_slice_get os k o o (sym at)) in
-      let longer : take (k + 1) os ≡ take k os ++ o ∷ [] = rw add-one (take-suc os k o in' ∙ ap (λ x. take k os ++ x ∷ []) (sym is)) in
-      ap (map node_hash) push ∙ map-append node_hash hs (h ∷ []) ∙ (λ j. so_far j ++ made j ∷ [])
-      ∙ sym (ap with_hashes longer ∙ map-append (with_related_hash (table_nodes algorithm rows) c i) (take k os) (o ∷ []))
+  -- occurrences that are alike give the same hash as often
+  pub hashed-next : (os : List (Occurrence ℕ)) (k end : ℕ) (o : Occurrence ℕ) (hs new : List HashedNode) (h : HashedNode) → IsAlikeUntil os k o end
+      → flat_map node_hashes hs ≡ map (with_related_hash (table_nodes algorithm rows) c i) (take k os) → new ≡ hs ++ h ∷ [] → node_hashes h ≡ replicate (end - k) (with_related_hash (table_nodes algorithm rows) c i o)
+      → flat_map node_hashes new ≡ map (with_related_hash (table_nodes algorithm rows) c i) (take end os)
+  hashed-next os k end o hs new h alike so_far push made =
+      ap (flat_map node_hashes) push ∙ flat_map-append node_hashes hs (h ∷ []) ∙ (λ j. so_far j ++ (append-nil (node_hashes h) ∙ made) j)
+      ∙ sym (ap with_hashes alike.1 ∙ map-append (with_related_hash (table_nodes algorithm rows) c i) (take k os) (replicate (end - k) o)
+      ∙ ap (λ hs. with_hashes (take k os) ++ hs) (map-copies (with_related_hash (table_nodes algorithm rows) c i) (end - k) o))
 
   pub groups-of_row : (n : ℕ) → groups_by_hash (map (with_related_hash (table_nodes algorithm rows) c i) (related_in_row (slice_get rows n))) ≡ related_groups (table_nodes algorithm rows) c i n
   unfolding table_nodes

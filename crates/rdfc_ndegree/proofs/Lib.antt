@@ -17,6 +17,7 @@ pub mod Renamed
 pub mod NumberLemmas
 pub mod BuildLemmas
 pub mod BuiltRows
+pub mod Alikes
 pub mod NodePlaces
 pub mod TableLemmas
 pub mod FirstGroups

@@ -8,9 +8,10 @@ use digest_mac::Hash;
 use std::alloc::Global;
 use term_store::{TermId, Terms};
 
-/// A call with what it gives by either hash, and how many arrangements it takes.
-#[derive(Clone, Copy)]
+/// A call with what it gives by either hash, what was spent before, and how many arrangements it
+/// takes, which is the limit too.
 struct Case {
+    name: &'static str,
     statements: &'static str,
     firsts: &'static [First],
     canonical: &'static [&'static str],
@@ -20,6 +21,7 @@ struct Case {
     sha384: &'static str,
     issuer: &'static [&'static str],
     tie: bool,
+    spent: u64,
     work: u64,
 }
 
@@ -33,11 +35,20 @@ const NESTED_FIRSTS: [First; 4] = [
     ("_:ne3", OUTER),
 ];
 
+/// Nodes that are alike at first.
+const FIVE_ALIKE: [First; 5] = [
+    ("_:ne0", PAIR),
+    ("_:ne1", PAIR),
+    ("_:ne2", PAIR),
+    ("_:ne3", PAIR),
+    ("_:ne4", PAIR),
+];
+
 // The hashes and the counts of arrangements were made by other programs, which follow RDF Dataset
-// Canonicalization, 4.8.3, step by step. In the last two cases the issuers hold nodes that stand in
-// no statement, and the node of the last is one.
-const CASES: [Case; 6] = [
+// Canonicalization, 4.8.3, step by step.
+const CASES: [Case; 9] = [
     Case {
+        name: "nodes that point to each other",
         statements: "_:e0 <http://example.com/#p> _:e1 .\n_:e1 <http://example.com/#p> _:e0 .\n",
         firsts: &[("_:ne0", PAIR), ("_:ne1", PAIR)],
         canonical: &[],
@@ -47,9 +58,11 @@ const CASES: [Case; 6] = [
         sha384: "75a954c8b70f4f56a7502e5e590a496d8ff64dd070bd68a2a688e7f9f627d9ecf8b4ccb429ad5ddf083ea594988219ec",
         issuer: &["_:ne0", "_:ne1"],
         tie: false,
+        spent: 0,
         work: 4,
     },
     Case {
+        name: "two related nodes that nothing tells apart: the issuer of the first arrangement",
         statements: "_:e2 <http://example.com/#p> _:e0 .\n_:e2 <http://example.com/#p> _:e1 .\n",
         firsts: &[("_:ne0", TWIN), ("_:ne1", TWIN), ("_:ne2", TWINS)],
         canonical: &[],
@@ -59,9 +72,11 @@ const CASES: [Case; 6] = [
         sha384: "6af0a7de5625a1a5e5e6c74ec4ce263eefe15e25d73388b0eaf9c14fcc866efe106fb894eb9a88863c13013b6fd2f0b5",
         issuer: &["_:ne2", "_:ne0", "_:ne1"],
         tie: true,
+        spent: 0,
         work: 6,
     },
     Case {
+        name: "a tie one call deeper",
         statements: NESTED,
         firsts: &NESTED_FIRSTS,
         canonical: &[],
@@ -71,9 +86,11 @@ const CASES: [Case; 6] = [
         sha384: "126baf1c164c9f0fb253a2684b3c392d7eb6c9e52c9cb12939cf7cbe08ae8293c2351ba0895daefffcebb3989eff8d64",
         issuer: &["_:ne3", "_:ne2", "_:ne0", "_:ne1"],
         tie: true,
+        spent: 0,
         work: 8,
     },
     Case {
+        name: "a node that stands alone",
         statements: "_:e0 <http://example.com/#p> <http://example.com/#o> .\n",
         firsts: &[("_:ne0", ALONE)],
         canonical: &[],
@@ -83,9 +100,25 @@ const CASES: [Case; 6] = [
         sha384: "38b060a751ac96384cd9327eb1b1e36a21fdb71114be07434c0cc7bf63f6e1da274edebfe76f65fbd51ad2f14898b95b",
         issuer: &["_:ne0"],
         tie: false,
+        spent: 0,
         work: 0,
     },
     Case {
+        name: "a node that stands alone, where more was spent than the limit",
+        statements: "_:e0 <http://example.com/#p> <http://example.com/#o> .\n",
+        firsts: &[("_:ne0", ALONE)],
+        canonical: &[],
+        node: "_:ne0",
+        begun: &["_:ne0"],
+        sha256: "e3b0c44298fc1c149afbf4c8996fb92427ae41e4649b934ca495991b7852b855",
+        sha384: "38b060a751ac96384cd9327eb1b1e36a21fdb71114be07434c0cc7bf63f6e1da274edebfe76f65fbd51ad2f14898b95b",
+        issuer: &["_:ne0"],
+        tie: false,
+        spent: 3,
+        work: 0,
+    },
+    Case {
+        name: "issuers that hold nodes which stand in no statement",
         statements: NESTED,
         firsts: &NESTED_FIRSTS,
         canonical: &["_:ne8", "_:ne0"],
@@ -95,9 +128,11 @@ const CASES: [Case; 6] = [
         sha384: "e0aaf6810b30714ea679acdc55f3fc7c14b9597087a33f091368286a0b40a799862d6952ef7f77d74cb9135ce303adf7",
         issuer: &["_:ne9", "_:ne3", "_:ne2", "_:ne1"],
         tie: false,
+        spent: 0,
         work: 5,
     },
     Case {
+        name: "the same, and so does the node",
         statements: NESTED,
         firsts: &NESTED_FIRSTS,
         canonical: &["_:ne7"],
@@ -107,7 +142,36 @@ const CASES: [Case; 6] = [
         sha384: "38b060a751ac96384cd9327eb1b1e36a21fdb71114be07434c0cc7bf63f6e1da274edebfe76f65fbd51ad2f14898b95b",
         issuer: &["_:ne8"],
         tie: false,
+        spent: 0,
         work: 0,
+    },
+    Case {
+        name: "a ring of nodes, of which each call waits for the next",
+        statements: "_:e0 <http://example.com/#p> _:e1 .\n_:e1 <http://example.com/#p> _:e2 .\n_:e2 <http://example.com/#p> _:e3 .\n_:e3 <http://example.com/#p> _:e4 .\n_:e4 <http://example.com/#p> _:e0 .\n",
+        firsts: &FIVE_ALIKE,
+        canonical: &[],
+        node: "_:ne0",
+        begun: &["_:ne0"],
+        sha256: "a3239a00a47e7aba69e77ee3431c9aa68785497e68b0165b0dc932abc31d2d36",
+        sha384: "5d4bee91cda2fd9fc09c4975961635ac882caec6587dd68e5090840fb88fe353c35a9170d0acfb01004e1e21c5feedd4",
+        issuer: &["_:ne0", "_:ne4", "_:ne3", "_:ne2", "_:ne1"],
+        tie: false,
+        spent: 0,
+        work: 10,
+    },
+    Case {
+        name: "a chain of nodes, from one end to the other",
+        statements: "_:e0 <http://example.com/#p> _:e1 .\n_:e1 <http://example.com/#p> _:e2 .\n_:e2 <http://example.com/#p> _:e3 .\n_:e3 <http://example.com/#p> _:e4 .\n",
+        firsts: &FIVE_ALIKE,
+        canonical: &[],
+        node: "_:ne0",
+        begun: &["_:ne0"],
+        sha256: "e01d9ab77e396d8a0007cfe95423312a3d6a459de774a4443cc074cc80c4d8ba",
+        sha384: "4fddb59e094b2954385884a40ef0ee13f6de910e64d3585212df1860a794c552536f4e1eea2af39ccf025cfcf1da89c5",
+        issuer: &["_:ne0", "_:ne1", "_:ne2", "_:ne3", "_:ne4"],
+        tie: false,
+        spent: 0,
+        work: 8,
     },
 ];
 
@@ -167,46 +231,32 @@ fn is_path(terms: &Terms<'_>, path: &Path, case: &Case, hash: Hash) -> bool {
 fn is_given(alloc: Global, case: &Case, hash: Hash) -> Result<bool, CanonFault> {
     let arena = Bump::new(alloc);
     let mut terms = Terms::new(alloc, &arena)?;
-    let mut exact = meter(0, case.work);
+    let mut exact = meter(case.spent, case.work);
     let path = call(alloc, &mut terms, case, hash, &mut exact)?;
-    Ok(is_path(&terms, &path, case, hash) && exact.spent == case.work)
+    let work = exact.spent.checked_sub(case.spent);
+    Ok(is_path(&terms, &path, case, hash) && work == Some(case.work))
 }
 
-/// What the call is refused for within this limit, if it is.
-fn refusal(
-    alloc: Global,
-    case: &Case,
-    hash: Hash,
-    work: u64,
-) -> Result<Option<CanonFault>, CanonFault> {
+/// Whether one arrangement less than it takes is too few.
+fn is_over(alloc: Global, case: &Case, hash: Hash) -> Result<bool, CanonFault> {
+    let Some(work) = case.work.checked_sub(1) else {
+        return Ok(true);
+    };
     let arena = Bump::new(alloc);
     let mut terms = Terms::new(alloc, &arena)?;
     match call(alloc, &mut terms, case, hash, &mut meter(0, work)) {
-        Ok(_) => Ok(None),
-        Err(fault) => Ok(Some(fault)),
+        Ok(_) => Ok(false),
+        Err(fault) => Ok(fault == CanonFault::TooMuchWork(work)),
     }
 }
 
 #[test]
-fn nodes_by_their_numbers(rt: HostRuntime) -> Result<(), CanonFault> {
+fn calls_within_their_limit(rt: HostRuntime) -> Result<(), CanonFault> {
     for case in &CASES {
         for hash in [Hash::Sha256, Hash::Sha384] {
-            assert!(rt; is_given(rt.alloc(), case, hash)?, "{}", case.sha256);
-        }
-    }
-    Ok(())
-}
-
-// One arrangement less than it takes.
-#[test]
-fn limit_of_a_call(rt: HostRuntime) -> Result<(), CanonFault> {
-    for case in &CASES {
-        if let Some(work) = case.work.checked_sub(1) {
-            let full = Some(CanonFault::TooMuchWork(work));
-            let short = refusal(rt.alloc(), case, Hash::Sha256, work)?;
-            assert!(rt; short == full, "{}", case.sha256);
-            let long = refusal(rt.alloc(), case, Hash::Sha384, work)?;
-            assert!(rt; long == full, "{}", case.sha384);
+            let given = is_given(rt.alloc(), case, hash)?;
+            let over = is_over(rt.alloc(), case, hash)?;
+            assert!(rt; given && over, "{}", case.name);
         }
     }
     Ok(())

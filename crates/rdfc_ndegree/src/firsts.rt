@@ -1,8 +1,8 @@
 //! Nodes grouped by first-degree hash (RDF Dataset Canonicalization, 4.4.3, step 3).
-ghost use Rattle.std.specs.Prelude.{◌≡◌, ◌<◌, map, length, All, IfOk};
+ghost use Rattle.std.specs.Prelude.{◌≡◌, ◌<◌, map, flat_map, length, All, IfOk};
 ghost use Rattle.digest_mac.specs.declared.hash.Hash.{Hash};
 ghost use Rattle.rdfc_ndegree.specs.Run.{first_groups};
-ghost use Rattle.rdfc_ndegree.specs.Internal.Grouping.{node_hash, row_hash};
+ghost use Rattle.rdfc_ndegree.specs.Internal.Grouping.{node_hashes, row_hash};
 ghost use Rattle.rdfc_ndegree.specs.Table.{group_in, numbers_below, table_nodes, IsClosed};
 
 use crate::related::{HashedNode, NodeGroup, group_by_hash};
@@ -31,7 +31,7 @@ pub fn first_groups(alloc: Global, table: &NodeTable<'_, '_>) -> Result<Vec<Node
 
 /// Each node with its first-degree hash.
 fn hashed_rows(alloc: Global, table: &NodeTable<'_, '_>) -> Result<Vec<HashedNode>, Memory>
-    ensures { IfOk result (λ hs. map node_hash hs.items
+    ensures { IfOk result (λ hs. flat_map node_hashes hs.items
         ≡ map (row_hash table.now) (numbers_below (length table.now))) }
 {
     let mut hashed = Vec::new(alloc);
@@ -39,7 +39,11 @@ fn hashed_rows(alloc: Global, table: &NodeTable<'_, '_>) -> Result<Vec<HashedNod
         let Some(first) = table.first(node) else {
             return Ok(hashed);
         };
-        hashed.push(HashedNode { hash: first, node })?;
+        hashed.push(HashedNode {
+            hash: first,
+            node,
+            count: 1,
+        })?;
     }
     Ok(hashed)
 }

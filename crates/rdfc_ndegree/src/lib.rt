@@ -18,8 +18,6 @@ mod canonical;
 mod choice;
 mod chosen_path;
 mod degree;
-#[cfg(test)]
-mod degree_tests;
 mod firsts;
 mod frames;
 mod hash_groups;

@@ -1,8 +1,8 @@
 //! Related hashes, and nodes grouped by them (RDF Dataset Canonicalization, 4.7).
-ghost use Rattle.std.specs.Prelude.{◌≡◌, ◌<◌, ◌++◌, map, length, slice_get, All, IsTrue, OnOk, IfOk};
+ghost use Rattle.std.specs.Prelude.{◌≡◌, ◌<◌, ◌++◌, map, flat_map, length, replicate, slice_get, All, IsTrue, OnOk, IfOk};
 ghost use Rattle.digest_mac.specs.declared.hash.Hash.{Hash};
 ghost use Rattle.rdfc_ndegree.specs.Groups.{position_text, identifier_or_hash, groups_by_hash, with_related_hash, related_groups};
-ghost use Rattle.rdfc_ndegree.specs.Internal.Grouping.{node_hash, add_to_groups, last_has_hash};
+ghost use Rattle.rdfc_ndegree.specs.Internal.Grouping.{add_each, last_has_hash, node_hashes};
 ghost use Rattle.rdfc_ndegree.specs.Table.{group_in};
 ghost use Rattle.rdfc_ndegree.specs.Datasets.{occurrence};
 ghost use Rattle.rdfc_ndegree.specs.Table.{related_in_row, table_nodes};
@@ -15,11 +15,12 @@ use base_types::{Memory, Sequence};
 use digest_mac::{Hash, HexDigest, digest_hex};
 use std::alloc::Global;
 
-/// A node with a hash of it.
+/// A node with a hash of it, and how often it has that hash.
 #[derive(Debug, Drop)]
 pub(crate) struct HashedNode {
     pub hash: HexDigest,
     pub node: usize,
+    pub count: usize,
 }
 
 /// The nodes with one related hash, each as often as it has that hash.
@@ -55,7 +56,8 @@ pub(crate) fn related_groups(
     Ok(groups)
 }
 
-/// The node of each occurrence with the related hash.
+/// The node of each occurrence with the related hash. Occurrences that are alike, one after another,
+/// take one digest together.
 fn related_hashes(
     alloc: Global,
     table: &NodeTable<'_, '_>,
@@ -64,33 +66,35 @@ fn related_hashes(
     node: usize,
     hash: Hash,
 ) -> Result<Vec<HashedNode>, Memory>
-    ensures { IfOk result (λ hs. map node_hash hs.items
+    ensures { IfOk result (λ hs. flat_map node_hashes hs.items
         ≡ map (with_related_hash (table_nodes hash table.now) canonical.now issuer.now)
         (related_in_row (slice_get table.now node))) }
 {
     let mut hashed = Vec::new(alloc);
-    for place in 0..table.related_len(node) {
-        let Some(related) = table.related(node, place) else {
-            return Ok(hashed);
-        };
-        let next = related_hash(alloc, table, canonical, issuer, &related, hash)?;
+    let mut place = 0;
+    while let Some(related) = table.related(node, place) {
+        let end = table.alike_until(node, place);
+        let next = related_hash(alloc, table, canonical, issuer, &related, end - place, hash)?;
         hashed.push(next)?;
+        place = end;
     }
     Ok(hashed)
 }
 
-/// The node of one occurrence with the related hash. RDF Dataset Canonicalization, 4.7.3.
+/// The node of so many occurrences, which are alike, with the related hash. RDF Dataset
+/// Canonicalization, 4.7.3.
 fn related_hash(
     alloc: Global,
     table: &NodeTable<'_, '_>,
     canonical: &Canonical,
     issuer: &Temporary,
     related: &RelatedNode<'_>,
+    count: usize,
     hash: Hash,
 ) -> Result<HashedNode, Memory>
-    ensures { IfOk result (λ h. node_hash h
-        ≡ with_related_hash (table_nodes hash table.now) canonical.now issuer.now
-        (occurrence related.now.position related.now.predicate.now related.now.node)) }
+    ensures { IfOk result (λ h. node_hashes h ≡ replicate count
+        (with_related_hash (table_nodes hash table.now) canonical.now issuer.now
+        (occurrence related.now.position related.now.predicate.now related.now.node))) }
 {
     let mut text = Vec::new(alloc);
     push_position(&mut text, related)?;
@@ -98,6 +102,7 @@ fn related_hash(
     Ok(HashedNode {
         hash: digest_hex(hash, text.as_slice()),
         node: related.node,
+        count,
     })
 }
 
@@ -153,7 +158,7 @@ pub(crate) fn group_by_hash(
     mut hashed: Vec<HashedNode>,
 ) -> Result<Vec<NodeGroup>, Memory>
     ensures { IfOk result (λ groups. map group_in groups.items
-        ≡ groups_by_hash (map node_hash hashed.items)) }
+        ≡ groups_by_hash (flat_map node_hashes hashed.items)) }
 {
     hashed.sort_by_key(
         |node: &HashedNode|
@@ -167,22 +172,36 @@ pub(crate) fn group_by_hash(
     Ok(groups)
 }
 
-/// Adds a node to the last group if it has its hash, and else as a group of its own.
+/// Adds a node, as often as it has its hash, to the last group if that has the hash too, and else as
+/// a group of its own.
 #[tactic(auto, using(crate::proofs::Adding::adding))]
 fn add(alloc: Global, groups: &mut Vec<NodeGroup>, next: &HashedNode) -> Result<(), Memory>
     ensures { OnOk result (map group_in groups.new.items
-        ≡ add_to_groups (map group_in groups.old.items) (node_hash next.now)) }
+        ≡ add_each (map group_in groups.old.items) (node_hashes next.now)) }
 {
+    if next.count == 0 {
+        return Ok(());
+    }
     if last_has_hash(groups.as_slice(), next.hash) {
         let last = groups.len() - 1;
-        return groups[last].members.push(next.node);
+        return push_times(&mut groups[last].members, next.node, next.count);
     }
     let mut members = Sequence::new(alloc);
-    members.push(next.node)?;
+    push_times(&mut members, next.node, next.count)?;
     groups.push(NodeGroup {
         hash: next.hash,
         members,
     })?;
+    Ok(())
+}
+
+/// Puts a node at the end so many times.
+fn push_times(members: &mut Sequence<usize>, node: usize, count: usize) -> Result<(), Memory>
+    ensures { OnOk result (members.new ≡ members.old ++ replicate count node) }
+{
+    for _time in 0..count {
+        members.push(node)?;
+    }
     Ok(())
 }
 

@@ -1,7 +1,10 @@
 //! The table of blank nodes by number (RDF Dataset Canonicalization, 4.3).
-ghost use Rattle.std.specs.Prelude.{◌≡◌, length, map, slice_get};
+ghost use Rattle.std.specs.Prelude.{◌≡◌, ◌≤◌, ℕ, IsTrue, Some, length, map, slice_get};
 ghost use Rattle.std.specs.Option.{option_map};
+ghost use Rattle.rdfc_ndegree.specs.Nodes.{Occurrence};
 ghost use Rattle.rdfc_ndegree.specs.Datasets.{occurrence};
+ghost use Rattle.rdfc_ndegree.specs.Internal.Grouping.{IsAlikeUntil};
+ghost use Rattle.rdfc_ndegree.specs.declared.table.StoredRelated.{StoredRelated};
 ghost use Rattle.rdfc_ndegree.specs.Table.{AreRowsKnown, IsClosed, related_in_row, row_texts};
 
 use base_types::Sequence;
@@ -114,6 +117,43 @@ impl<'t, 'a> NodeTable<'t, 'a> {
             node: related.node,
         })
     }
+
+    /// The place behind the occurrences that are alike from `place` on, one after another: in position,
+    /// predicate and node.
+    pub(crate) fn alike_until(&self, node: usize, place: usize) -> usize
+        ensures after { place ≤ result }
+        ensures alike { (o : Occurrence ℕ)
+            → Some o ≡ slice_get (related_in_row (slice_get self.now node)) place
+            → IsAlikeUntil (related_in_row (slice_get self.now node)) place o result }
+    {
+        match self.rows.get(node) {
+            Some(row) => alike_until(row.related.as_slice(), place),
+            None => place,
+        }
+    }
+}
+
+/// The place behind the occurrences that are alike from `place` on.
+fn alike_until(related: &[StoredRelated], place: usize) -> usize
+    ensures after { place ≤ result }
+    ensures alike { (r : StoredRelated) → Some r ≡ slice_get related.now place
+        → IsAlikeUntil related.now place r result }
+{
+    let Some(first) = related.get(place) else {
+        return place;
+    };
+    let mut end = place + 1;
+    while end < related.len() && is_alike(first, &related[end]) {
+        end += 1;
+    }
+    end
+}
+
+/// Whether two occurrences are alike in position, predicate and node.
+fn is_alike(one: &StoredRelated, other: &StoredRelated) -> bool
+    ensures { IsTrue result → one.now ≡ other.now }
+{
+    one.position == other.position && one.predicate == other.predicate && one.node == other.node
 }
 
 /// Each related node is a row of the table.

@@ -90,9 +90,11 @@ const NODES: [First; 4] = [
     ("_:nthree", "three"),
 ];
 
-/// Node 0 is beside node 1 twice as subject, node 2 as object and node 3 as graph.
+/// Node 0 is beside node 1 twice as subject, node 2 three times as object and node 3 twice as graph.
+/// In its row stand two of node 2 together, one of node 3, the third of node 2, and the other of
+/// node 3.
 const STATEMENTS: &str =
-    "_:one <http://example.com/p> _:zero .\n_:zero <http://example.com/p> _:two .\n_:zero <http://example.com/p> \"x\" _:three .\n_:one <http://example.com/p> _:zero <http://example.com/g> .\n";
+    "_:one <http://example.com/p> _:zero .\n_:zero <http://example.com/p> _:two .\n_:zero <http://example.com/p> _:two _:three .\n_:zero <http://example.com/p> _:two <http://example.com/g> .\n_:zero <http://example.com/p> \"x\" _:three .\n_:one <http://example.com/p> _:zero <http://example.com/g> .\n";
 
 type Groups = [(&'static str, &'static [usize]); 3];
 
@@ -104,7 +106,7 @@ const GROUPS: [(Hash, Groups); 2] = [
         [
             (
                 "0812120ca92da9f873a909c071e0fb62892e99173aa16a354ff8b0aad21322ad",
-                &[2],
+                &[2, 2, 2],
             ),
             (
                 "580a454baf47c24eed9aef7f2c9112599edd461bae551d48f3c7c8abd9f1c494",
@@ -112,7 +114,7 @@ const GROUPS: [(Hash, Groups); 2] = [
             ),
             (
                 "b63743ce5cfdf0a6a9c606da63865aa0403dff5f3714a536e1ffba39d56a3d7e",
-                &[3],
+                &[3, 3],
             ),
         ],
     ),
@@ -125,11 +127,11 @@ const GROUPS: [(Hash, Groups); 2] = [
             ),
             (
                 "850955df5663020ed7144bf14396eee5b6e197fb90fc00512ac415dd8687095fb4503c91a068666212880a473a39c01e",
-                &[2],
+                &[2, 2, 2],
             ),
             (
                 "fb7b0f7d410dc0345014807fef875e590196b09e45f6dcc2d3d0824770ca5521a6cad0684b514c1d494605bb2da69311",
-                &[3],
+                &[3, 3],
             ),
         ],
     ),

@@ -5,7 +5,7 @@ use Rattle.rdfc_ndegree.proofs.FirstGroups.{rows-next, first-there}
 use Rattle.rdfc_ndegree.proofs.firsts.hashed_rows.Goals as goal
 
 pub loop-node-preserved : goal.loop-node-preserved
-loop-node-preserved c = rows-next c.args.table.now c.loop-node.hashed.items c.push.new.self.items c.loop-node.node c.in-Some.first _ c.loop-node.invariant c.in-Some.ensures refl refl c.in_ok-push.ensures.items
+loop-node-preserved c = rows-next c.args.table.now c.loop-node.hashed.items c.push.new.self.items c.loop-node.node c.in-Some.first _ c.loop-node.invariant c.in-Some.ensures refl refl refl c.in_ok-push.ensures.items
 
 pub returns-in_default : goal.returns-in_default
 returns-in_default c = first-there c.args.table.now c.loop-node.node c.len-node-end.result c.loop-node-test.true c.len-node-end.ensures.count c.in_default.ensures
