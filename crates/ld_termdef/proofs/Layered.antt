@@ -159,5 +159,7 @@ laid more over under top low whole result is layers above below made =
     made ∙ ap (λ es. overlay_of es low) above ∙ ap (overlay_of (overlay_of more over)) below ∙ overlay_of-assoc more over under layers.under_rises ∙ ap (overlay_of more) (sym is)
 
 pub ruleset take_steps = (takes-over, takes-same, takes-under)
+
 pub ruleset lay_steps = (lay-layers, laid)
+
 pub ruleset flat_steps = (same-layers, flat-layers, flat-same)

@@ -44,4 +44,5 @@ remember-before p before a kept is none pushed =
     ∙ ap (λ b. remember b (active_of before) (active_of a)) is
 
 pub ruleset back_steps = (back-some, back-none)
+
 pub ruleset remember_steps = (remember-propagates, remember-some, remember-before)

@@ -212,12 +212,21 @@ pub reads-relative : (c : Context) (m : Mode) (text : List ℕ) → None ≡ fir
 reads-relative c m text none other = (λ j. unwrap_or (or_else (none j) (other j)) (read.Relative text)) ∙ whole c m text
 
 pub ruleset keyword_steps = (keyword_row-word, keyword_row-form, keyword_row-none)
+
 pub ruleset term_steps = (term-keyword, term-defined, term-none, ok-same)
+
 pub ruleset compact_steps = (compact-some, compact-no_prefix, compact-no_term)
+
 pub ruleset parts_steps = (parts-blank, parts-slashes, parts-compact, ok-same)
+
 pub ruleset colon_steps = (colon-parts, colon-none, ok-same)
+
 pub ruleset vocab_steps = (vocab-no_mode, vocab-some, vocab-none)
+
 pub ruleset base_steps = (base-no_mode, base-some, base-none, ok-same)
+
 pub ruleset resolved_steps = (resolved-some, resolved-none)
+
 pub ruleset other_steps = (other-colon, other-absolute, other-vocab, other-base, ok-same)
+
 pub ruleset reads_steps = (reads-term, reads-other, reads-relative)

@@ -156,8 +156,8 @@ no_inside_fault g r c t x p n f =
       other_solves = λ u reached. p.solves u;
     } in
     let same : AgreeOn g (looks g t) c r = agrees g c r (looks g t) n.without_entry (without_entry g r p.solves) (λ u at is.
-      let first : Reaches g t u = once t u (record { looked = at; entered = is }) in
-      (agree g c r (Reaches g t) p.ranked.rank s (λ s u reached needs. reaches_more g t s u reached needs) (λ s u reached needs. p.ranked.falls s u needs) u first, has_definition g c u (entry g u) (n.needed u first) is)) in
+    let first : Reaches g t u = once t u (record { looked = at; entered = is }) in
+    (agree g c r (Reaches g t) p.ranked.rank s (λ s u reached needs. reaches_more g t s u reached needs) (λ s u reached needs. p.ranked.falls s u needs) u first, has_definition g c u (entry g u) (n.needed u first) is)) in
     no_entry_fault g c r t x (entry g t) refl v same (p.solves t) f
 
 -- a result excludes every fault

@@ -67,7 +67,7 @@ term_definition g e d r =
       direction = value_or setting.Absent r.direction;
       containers = value_or no_containers r.containers;
       scoped = option_map (scoped_at (place_inside e (codes "@context")))
-        (member_of (codes "@context") d);
+          (member_of (codes "@context") d);
       nest = value_or None r.nest;
       index = value_or None r.index;
     }

@@ -99,10 +99,10 @@ definition_with members = expanded_definition false false members
 abbrev pub faults_with : List (Member Tree) → List Fault
 faults_with members =
     row_faults
-      (entry_at (Key (codes "document") ∷ Key (codes "@context") ∷ [])
-        (new_member (codes "a") (v.Object members)))
-      (definition_with members)
-      (rows empty_context (codes "a") (definition_with members))
+    (entry_at (Key (codes "document") ∷ Key (codes "@context") ∷ [])
+    (new_member (codes "a") (v.Object members)))
+    (definition_with members)
+    (rows empty_context (codes "a") (definition_with members))
 
 -- one error at each of two members of the term `a`
 abbrev pub two_faults : Code → List ℕ → List ℕ → List Fault

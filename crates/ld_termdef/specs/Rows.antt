@@ -43,14 +43,14 @@ rows c t d = record {
   containers = checked_or (fine no_containers) containers_in (member_of (codes "@container") d);
   index = checked_or (fine None) (index_in c) (member_of (codes "@index") d);
   language = checked_or (fine setting.Absent)
-    (unless_typed (has_member (codes "@type") d) language_in) (member_of (codes "@language") d);
+      (unless_typed (has_member (codes "@type") d) language_in) (member_of (codes "@language") d);
   direction = checked_or (fine setting.Absent)
-    (unless_typed (has_member (codes "@type") d) direction_in) (member_of (codes "@direction") d);
+      (unless_typed (has_member (codes "@type") d) direction_in) (member_of (codes "@direction") d);
   nest = checked_or (fine None) nest_in (member_of (codes "@nest") d);
   prefix = checked_or (fine None) (boolean_in error.InvalidPrefixValue)
-    (member_of (codes "@prefix") d);
+      (member_of (codes "@prefix") d);
   protected = checked_or (fine None) (boolean_in error.InvalidProtectedValue)
-    (member_of (codes "@protected") d);
+      (member_of (codes "@protected") d);
 }
 
 -- the place of a member: a definition that is no object has none, so that its entry counts

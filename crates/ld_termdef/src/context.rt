@@ -120,11 +120,7 @@ impl ActiveContext {
     ///
     /// `Memory`: there is no memory for one previous context more.
     #[tactic(auto, using(crate::proofs::Returns::remember_steps))]
-    pub fn remember(
-        self,
-        before: ActiveContext,
-        propagate: bool,
-    ) -> Result<ActiveContext, Memory>
+    pub fn remember(self, before: ActiveContext, propagate: bool) -> Result<ActiveContext, Memory>
         ensures { IfOk result (λ c.
             active_of c ≡ remember propagate (active_of before) (active_of self)) }
     {

@@ -11,6 +11,7 @@ use std::test::Fail;
 
 /// A vocabulary, and a base. RFC 3986, section 5.4.
 const V: &str = "https://ex.org/v#";
+
 const BASE: &str = "http://a/b/c/d;p?q";
 
 /// The terms of `READINGS`: what each maps to, where nothing is the empty text, and whether it may be
@@ -169,33 +170,53 @@ fn reading(alloc: Global, read: &ReadIri) -> Result<String, Fail> {
     })
 }
 
-#[test]
-fn texts_read_by_the_first_row_that_applies(rt: HostRuntime) -> Result<(), Fail> {
-    let alloc = rt.alloc();
+/// The first row whose text reads otherwise.
+fn first_wrong(
+    alloc: Global,
+    active: &ActiveContext,
+    rows: &[(&str, Mode, &str)],
+) -> Result<Option<usize>, Fail> {
+    for (number, (text, mode, want)) in rows.iter().enumerate() {
+        let read = expand_iri(alloc, active, text, *mode)?;
+        if reading(alloc, &read)?.as_str() != *want {
+            return Ok(Some(number));
+        }
+    }
+    Ok(None)
+}
+
+/// The definitions of `TERMS`.
+fn terms_of_rows(alloc: Global) -> Result<Definitions, Fail> {
     let mut terms = Definitions::new(alloc)?;
     for (term, mapped, prefix) in TERMS {
-        terms = with_term(alloc, &terms, term, mapped_by(alloc, mapped)?, prefix, false)?;
+        terms = with_term(
+            alloc,
+            &terms,
+            term,
+            mapped_by(alloc, mapped)?,
+            prefix,
+            false,
+        )?;
     }
-    let active = context_with(alloc, BASE, V, terms)?;
-    for (text, mode, want) in READINGS {
-        let read = expand_iri(alloc, &active, text, mode)?;
-        let told = reading(alloc, &read)?;
-        assert_eq!(rt; told.as_str(), want, "at {text}");
-    }
-    let based = context_with(alloc, BASE, "", Definitions::new(alloc)?)?;
-    for (text, mode, want) in WITH_BASE {
-        let read = expand_iri(alloc, &based, text, mode)?;
-        let told = reading(alloc, &read)?;
-        assert_eq!(rt; told.as_str(), want, "with a base at {text}");
-    }
-    let bare = ActiveContext::initial(alloc)?;
-    let read = expand_iri(alloc, &bare, "x", Mode::Both)?;
-    assert_eq!(rt; reading(alloc, &read)?.as_str(), "relative x");
+    Ok(terms)
+}
+
+#[test]
+fn texts_read_by_the_first_row_that_applies(rt: HostRuntime) -> Result<(), Fail> {
+    let active = context_with(rt.alloc(), BASE, V, terms_of_rows(rt.alloc())?)?;
+    assert_eq!(rt; first_wrong(rt.alloc(), &active, &READINGS)?, None);
+    Ok(())
+}
+
+#[test]
+fn a_base_and_no_terms(rt: HostRuntime) -> Result<(), Fail> {
+    let active = context_with(rt.alloc(), BASE, "", Definitions::new(rt.alloc())?)?;
+    assert_eq!(rt; first_wrong(rt.alloc(), &active, &WITH_BASE)?, None);
     Ok(())
 }
 
 /// What a term maps to, in words.
-fn meaning(active: &ActiveContext, term: &str) -> &str {
+fn meaning<'a>(active: &'a ActiveContext, term: &str) -> &'a str {
     match active.definition(term) {
         None => "none",
         Some(definition) => match &definition.mapped {
@@ -206,50 +227,95 @@ fn meaning(active: &ActiveContext, term: &str) -> &str {
     }
 }
 
+/// Letters in no order, so that each layer is put together again and again.
+const LETTERS: [&str; 26] = [
+    "m", "c", "x", "a", "z", "k", "q", "b", "y", "d", "w", "e", "v", "f", "u", "g", "t", "h", "s",
+    "i", "r", "j", "p", "l", "o", "n",
+];
+
+/// These definitions with each letter laid over them.
+fn with_letters(alloc: Global, terms: &Definitions, text: &str) -> Result<Definitions, Fail> {
+    let mut whole = terms.share()?;
+    for letter in LETTERS {
+        whole = with_term(alloc, &whole, letter, mapped_by(alloc, text)?, false, false)?;
+    }
+    Ok(whole)
+}
+
+/// A context that defines each letter twice.
+fn twice(alloc: Global) -> Result<ActiveContext, Fail> {
+    let first = with_letters(alloc, &Definitions::new(alloc)?, "urn:first")?;
+    let second = with_letters(alloc, &first, "urn:second")?;
+    context_with(alloc, "", "", second)
+}
+
 #[test]
-fn definitions_are_laid_over_and_contexts_return(rt: HostRuntime) -> Result<(), Fail> {
-    let alloc = rt.alloc();
-    // Each of 26 terms twice, so that layers are put together: the later definition counts.
-    let mut terms = Definitions::new(alloc)?;
-    for text in ["urn:first", "urn:second"] {
-        for letter in [
-            "m", "c", "x", "a", "z", "k", "q", "b", "y", "d", "w", "e", "v", "f", "u", "g", "t", "h",
-            "s", "i", "r", "j", "p", "l", "o", "n",
-        ] {
-            terms = with_term(alloc, &terms, letter, mapped_by(alloc, text)?, false, false)?;
-        }
+fn the_later_definition_counts(rt: HostRuntime) -> Result<(), Fail> {
+    let active = twice(rt.alloc())?;
+    for letter in LETTERS {
+        assert_eq!(rt; meaning(&active, letter), "urn:second", "at {letter}");
     }
-    let plain = context_with(alloc, "", "", terms.share()?)?;
-    for (term, want) in [
-        ("a", "urn:second"),
-        ("m", "urn:second"),
-        ("n", "urn:second"),
-        ("z", "urn:second"),
-        ("aa", "none"),
-        ("", "none"),
+    assert_eq!(rt; meaning(&active, "aa"), "none");
+    Ok(())
+}
+
+/// A context that defines a letter, and then defines it again, with these protected flags.
+fn guarded(alloc: Global, first: bool, second: bool) -> Result<ActiveContext, Fail> {
+    let letters = with_letters(alloc, &Definitions::new(alloc)?, "urn:first")?;
+    let once = with_term(alloc, &letters, "g", Mapped::Nothing, false, first)?;
+    context_with(
+        alloc,
+        "",
+        "",
+        with_term(alloc, &once, "g", Mapped::Nothing, false, second)?,
+    )
+}
+
+#[test]
+fn a_protected_term_counts_until_it_is_hidden(rt: HostRuntime) -> Result<(), Fail> {
+    for (first, second) in [(false, false), (true, false), (false, true), (true, true)] {
+        assert_eq!(rt; guarded(rt.alloc(), first, second)?.has_protected(), second);
+    }
+    Ok(())
+}
+
+/// A context that was processed on another one, and defines `a`.
+fn deepened(
+    alloc: Global,
+    before: ActiveContext,
+    name: &str,
+    propagate: bool,
+) -> Result<ActiveContext, Fail> {
+    let none = Definitions::new(alloc)?;
+    let terms = with_term(alloc, &none, "a", mapped_by(alloc, name)?, false, false)?;
+    Ok(context_with(alloc, "", "", terms)?.remember(before, propagate)?)
+}
+
+/// What `a` maps to so many steps back from the third of three contexts; the second and the third
+/// propagate, or do not.
+fn steps_back(alloc: Global, second: bool, third: bool, steps: usize) -> Result<String, Fail> {
+    let one = deepened(alloc, ActiveContext::initial(alloc)?, "urn:one", true)?;
+    let two = deepened(alloc, one, "urn:two", second)?;
+    let mut here = deepened(alloc, two, "urn:three", third)?;
+    for _ in 0..steps {
+        here = here.previous(alloc)?;
+    }
+    Ok(String::from_str(alloc, meaning(&here, "a"))?)
+}
+
+#[test]
+fn contexts_that_do_not_propagate_return(rt: HostRuntime) -> Result<(), Fail> {
+    for (second, third, steps, want) in [
+        (false, false, 0, "urn:three"),
+        (false, false, 1, "urn:two"),
+        (false, false, 2, "urn:one"),
+        (false, false, 3, "urn:one"),
+        (true, false, 1, "urn:two"),
+        (true, false, 2, "urn:two"),
+        (true, true, 1, "urn:three"),
     ] {
-        assert_eq!(rt; meaning(&plain, term), want, "at {term}");
+        let shown = steps_back(rt.alloc(), second, third, steps)?;
+        assert_eq!(rt; shown.as_str(), want, "at {steps}");
     }
-    assert!(rt; !plain.has_protected());
-    // A protected term counts in either layer, until it is hidden.
-    let guarded = with_term(alloc, &terms, "g", Mapped::Nothing, false, true)?;
-    let hidden = with_term(alloc, &guarded, "g", Mapped::Nothing, false, false)?;
-    let guarded = context_with(alloc, "", "", guarded)?;
-    assert!(rt; guarded.has_protected());
-    assert_eq!(rt; meaning(&guarded, "g"), "nothing");
-    assert!(rt; !context_with(alloc, "", "", hidden)?.has_protected());
-    // What does not propagate returns to the context from before.
-    let bare = ActiveContext::initial(alloc)?;
-    let inner = guarded.share(alloc)?.remember(plain.share(alloc)?, false)?;
-    assert_eq!(rt; meaning(&inner, "g"), "nothing");
-    assert_eq!(rt; meaning(&inner.previous(alloc)?, "g"), "urn:second");
-    let again = inner.remember(bare.share(alloc)?, false)?;
-    assert_eq!(rt; meaning(&again.previous(alloc)?, "g"), "urn:second");
-    let deeper = bare.remember(again.share(alloc)?, false)?;
-    assert_eq!(rt; meaning(&deeper, "g"), "none");
-    assert_eq!(rt; meaning(&deeper.previous(alloc)?, "g"), "nothing");
-    assert_eq!(rt; meaning(&deeper.previous(alloc)?.previous(alloc)?, "g"), "urn:second");
-    let passed = guarded.remember(plain, true)?;
-    assert_eq!(rt; meaning(&passed.previous(alloc)?, "g"), "nothing");
     Ok(())
 }
