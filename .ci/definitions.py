@@ -72,7 +72,7 @@ def imports(text):
     """What each imported name stands for, and what each name of a module does."""
     names, modules = {}, {}
     for crate, module, braces, alias in USE.findall(text):
-        if module.startswith("declared"):
+        if module.startswith(("declared", "contracts")):
             continue
         for item in filter(None, (i.strip() for i in braces.split(","))):
             name, _, other = item.partition(" as ")

@@ -1,0 +1,16 @@
+pub mod Words
+pub mod Checked
+pub mod Contexts
+pub mod Overlay
+pub mod Layers
+pub mod Iris
+pub mod Entries
+pub mod Mappings
+pub mod DefinitionMembers
+pub mod Rows
+pub mod Definitions
+pub mod Needs
+pub mod Equation
+pub mod DefinitionFaults
+pub mod Examples
+pub mod Internal
