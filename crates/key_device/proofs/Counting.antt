@@ -1,5 +1,5 @@
 -- A device that fails at chosen calls: what it counts, and what a call leaves of its meaning.
-use Rattle.std.proofs.Common.{◌≡◌, ℕ, ◌+◌, ◌-◌, ◌<◌, ◌≤◌, ◌^◌, min, inl, inr, refl, ap, arith}
+use Rattle.std.proofs.Common.{◌≡◌, ℕ, ◌+◌, ◌-◌, ◌≤◌, ◌^◌, min, inl, inr, refl, ap, arith}
 use Rattle.std.proofs.lemmas.Bool.{cases_lt}
 use Rattle.base_types.specs.Counts.{HasRisen, one_more}
 use Rattle.key_device.specs.Devices.{DeviceMeaning, MeansSame, CountsFault}

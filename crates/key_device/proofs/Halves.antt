@@ -10,7 +10,7 @@ use Rattle.digest_mac.specs.declared.hash.Hash.TheVariants.{Sha256}
 use Rattle.digest_mac.proofs.Labels.{length-keyed_digest}
 use Rattle.key_device.specs.declared.keys.KeyName.{KeyName}
 use Rattle.key_device.specs.declared.keys.Signature.{Signature}
-use Rattle.key_device.specs.HmacDevices.{owns_name, hmac_signature, hmac_accepts, fresh_name}
+use Rattle.key_device.specs.HmacDevices.{owns_name, hmac_signature, hmac_accepts}
 
 -- what is equal to a keyed digest has 32 bytes
 pub half_length : (key text half : List ℕ) → half ≡ keyed_digest Sha256 key text → length half ≡ 32
