@@ -126,10 +126,10 @@ fraction_reads (d ∷ ds) o is = run_from_reads (d ∷ ds) (offset_text o) is (o
 -- ---- offsets
 
 -- what was read to the end was read before the end
-ended : {A : Type 0} (o : Front A) (a : A) → at_end o ≡ Some a → ◌≡◌ {A = Front A} o (Some (a, []))
-ended None a h = absurd (cc)
-ended (Some (b, [])) a h = let same : b ≡ a = cc in rw same refl
-ended (Some (b, c ∷ cs)) a h = absurd (cc)
+before_end : {A : Type 0} (o : Front A) (a : A) → at_end o ≡ Some a → ◌≡◌ {A = Front A} o (Some (a, []))
+before_end None a h = absurd (cc)
+before_end (Some (b, [])) a h = let same : b ≡ a = cc in rw same refl
+before_end (Some (b, c ∷ cs)) a h = absurd (cc)
 
 -- what was read is an offset's text
 pub shift_spells : (text : List ℕ) (s : Shift) → shift_from text ≡ Some s → text ≡ offset_text (offset_of s)
@@ -138,18 +138,18 @@ shift_spells (b ∷ bs) s h = elim (cases_Bool (b == 90)) [
   | inl is ↦
       let found : shift_from (b ∷ bs) ≡ at_end (Some (Utc, bs)) = rw is refl in
       let z : b ≡ 90 = grind (arith, nat_tests) in
-      let same = some_pair Utc s bs [] (ended (Some (Utc, bs)) s (sym found ∙ h)) in
+      let same = some_pair Utc s bs [] (before_end (Some (Utc, bs)) s (sym found ∙ h)) in
       ap (λ c. c ∷ bs) z ∙ ap (λ xs. 90 ∷ xs) same.1 ∙ ap (λ x. offset_text (offset_of x)) same.0
   | inr other ↦ elim (cases_Bool (b == 43)) [
     | inl is ↦
         let found : shift_from (b ∷ bs) ≡ option_map Ahead (at_end (clock_after 43 (b ∷ bs))) = rw (other, is) refl in
         let m = option_map-Some Ahead (at_end (clock_after 43 (b ∷ bs))) s (sym found ∙ h) in
-        let spelled : b ∷ bs ≡ offset_text (offset_of (Ahead m.0)) = clock_spells 43 (b ∷ bs) [] m.0 (ended (clock_after 43 (b ∷ bs)) m.0 m.1) in
+        let spelled : b ∷ bs ≡ offset_text (offset_of (Ahead m.0)) = clock_spells 43 (b ∷ bs) [] m.0 (before_end (clock_after 43 (b ∷ bs)) m.0 m.1) in
         spelled ∙ ap (λ x. offset_text (offset_of x)) m.2
     | inr not' ↦
         let found : shift_from (b ∷ bs) ≡ option_map Behind (at_end (clock_after 45 (b ∷ bs))) = rw (other, not') refl in
         let m = option_map-Some Behind (at_end (clock_after 45 (b ∷ bs))) s (sym found ∙ h) in
-        let spelled : b ∷ bs ≡ offset_text (offset_of (Behind m.0)) = clock_spells 45 (b ∷ bs) [] m.0 (ended (clock_after 45 (b ∷ bs)) m.0 m.1) in
+        let spelled : b ∷ bs ≡ offset_text (offset_of (Behind m.0)) = clock_spells 45 (b ∷ bs) [] m.0 (before_end (clock_after 45 (b ∷ bs)) m.0 m.1) in
         spelled ∙ ap (λ x. offset_text (offset_of x)) m.2
   ]
 ]

@@ -15,14 +15,14 @@ use Rattle.proof_options.proofs.Fractions.{fraction_reads, fraction_spells, shif
 -- ---- what is read is spelled
 
 -- the text is that of these numbers and of some digits that count so much
-pub record Spelled (text : List ℕ) (w : Written) : Type 0 where
+pub record IsSpelling (text : List ℕ) (w : Written) : Type 0 where
   pub fraction : List ℕ
   pub is : IsFraction fraction
   pub counts : fraction_nanoseconds fraction ≡ w.nanosecond
   pub spelled : text ≡ stamp_text (parts_with w fraction)
 
 -- what was read of a text spells it
-pub written_spells : (text : List ℕ) (w : Written) → written_from text ≡ Some w → Spelled text w
+pub written_spells : (text : List ℕ) (w : Written) → written_from text ≡ Some w → IsSpelling text w
 unfolding stamp_text
 written_spells text w h =
     let day = went_on (day_from text) _ w h in
@@ -38,7 +38,7 @@ written_spells text w h =
     let tail : second.rest ≡ fraction_text f.digits ++ offset_text (offset_of shift.0) = f.spelled ∙ ap (λ xs. fraction_text f.digits ++ xs) o in
     let time : day.rest ≡ 84 ∷ (clock_text clock.read.hour clock.read.minute ++ 58 ∷ (two_digits second.read ++ (fraction_text f.digits ++ offset_text (offset_of shift.0)))) =
     c ∙ ap (λ xs. 84 ∷ (clock_text clock.read.hour clock.read.minute ++ xs)) (s.1 ∙ ap (λ xs. 58 ∷ (two_digits second.read ++ xs)) tail) in
-    subst (Spelled text) shift.2 (record {
+    subst (IsSpelling text) shift.2 (record {
       fraction = f.digits;
       is = f.is;
       counts = f.counts;
@@ -115,8 +115,8 @@ nothing_meant text w instant found none s =
     none s.parts.fraction (subst IsStampOf (sym (ap (λ v. parts_with v s.parts.fraction) same ∙ parts_again s.parts)) s.may_be)
 
 -- a text whose numbers have an instant is a stamp
-pub meant : (text : List ℕ) (w : Written) (instant : ℤ) → written_from text ≡ Some w → Means w (Some instant) → IsStamp text instant
-meant text w instant found means =
+pub means_stamp : (text : List ℕ) (w : Written) (instant : ℤ) → written_from text ≡ Some w → Means w (Some instant) → IsStamp text instant
+means_stamp text w instant found means =
     let s = written_spells text w found in
     let m = means s.fraction s.is s.counts in
     record { parts = parts_with w s.fraction; may_be = m.0; spelled = s.spelled; meant = m.1 }

@@ -7,8 +7,8 @@ use Rattle.proof_options.specs.Internal.Written.{date_of}
 use Rattle.proof_options.proofs.KitCalendar.{date-kit, epoch_day-kit}
 use Rattle.proof_options.proofs.instants.day_number.Goals as goal
 
-numbered : (y m d : ℕ) (n : ℤ) (date : Date) → date.year ≡ y → date.month ≡ m → date.day ≡ d → IsDate date → n ≡ kit.days_from_civil (pos y) m d → n ≡ epoch_day date
-numbered y m d n date ye me de is e = e ∙ rw (← ye, ← me, ← de) (epoch_day-kit date is)
+number_is : (y m d : ℕ) (n : ℤ) (date : Date) → date.year ≡ y → date.month ≡ m → date.day ≡ d → IsDate date → n ≡ kit.days_from_civil (pos y) m d → n ≡ epoch_day date
+number_is y m d n date ye me de is e = e ∙ rw (← ye, ← me, ← de) (epoch_day-kit date is)
 
 pub returns-in-Ok-clause-number : goal.returns-in-Ok-clause-number
 returns-in-Ok-clause-number c =
@@ -25,6 +25,6 @@ returns-in-Ok-clause-number c =
     let km : c.in-Ok.date.month ≡ c.args.day.month = omega (arith, ints, e.value.1, m) in
     let kd : c.in-Ok.date.day ≡ c.args.day.day = omega (arith, ints, e.value.2, d) in
     let at : c.to_unix_epoch_day.result ≡ kit.days_from_civil (pos c.args.day.year) c.args.day.month c.args.day.day = rw (← ky, ← km, ← kd) u.value in
-    let n : c.to_unix_epoch_day.result ≡ epoch_day date = numbered _ _ _ _ date refl refl refl is at in
+    let n : c.to_unix_epoch_day.result ≡ epoch_day date = number_is _ _ _ _ date refl refl refl is at in
     let same : to_z w64 (of_z w64 c.from.result) ≡ c.to_unix_epoch_day.result = omega (arith, ints, u.bound, f) in
     (is, same ∙ n)
