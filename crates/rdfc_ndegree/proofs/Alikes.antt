@@ -29,10 +29,11 @@ module _ {X : Type 0} where
   pub alike-next : (xs : List X) (place end : ℕ) (x d : X) → end < length xs → x ≡ get_or xs end d → IsAlikeUntil xs place x end → IsAlikeUntil xs place x (end + 1)
   alike-next xs place end x d within same alike =
       let after : place < end = alike.0 in
-      let more : (end - place) + 1 ≡ end + 1 - place = omega arith in
-      (omega arith,
-      take_more xs end d within ∙ (λ i. alike.1 i ++ sym same i ∷ []) ∙ append_assoc (take place xs) (replicate (end - place) x) (x ∷ [])
-      ∙ ap (λ ys. take place xs ++ ys) (replicate_more (end - place) x ∙ ap (λ n. replicate n x) more))
+      let more : (end - place) + 1 ≡ end + 1 - place = omega arith in (
+        omega arith,
+        take_more xs end d within ∙ (λ i. alike.1 i ++ sym same i ∷ []) ∙ append_assoc (take place xs) (replicate (end - place) x) (x ∷ [])
+            ∙ ap (λ ys. take place xs ++ ys) (replicate_more (end - place) x ∙ ap (λ n. replicate n x) more),
+      )
 
   -- of what stands at the place
   pub alike-there : (xs : List X) (place end : ℕ) (x y : X) → place < length xs → x ≡ get_or xs place x → Some y ≡ slice_get xs place → IsAlikeUntil xs place x end → IsAlikeUntil xs place y end
