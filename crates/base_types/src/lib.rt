@@ -12,8 +12,6 @@ mod memory;
 mod sequence;
 mod shared;
 mod sorted;
-#[cfg(test)]
-mod tests;
 mod text;
 
 pub use memory::Memory;

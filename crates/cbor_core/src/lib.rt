@@ -26,5 +26,3 @@ pub use laws::{
     no_item_begins_another,
 };
 
-#[cfg(test)]
-mod tests;

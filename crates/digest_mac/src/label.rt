@@ -1,4 +1,5 @@
-//! The blank label that belongs to a digest (Data Integrity ECDSA Cryptosuites 1.0, 3.4.3).
+//! The blank label that belongs to a digest (Data Integrity ECDSA Cryptosuites 1.0,
+//! createHmacIdLabelMapFunction).
 
 ghost use Rattle.std.specs.Prelude.{◌≡◌, IfOk};
 ghost use Rattle.digest_mac.specs.Labels.{multibase_text};

@@ -3,7 +3,7 @@
 ghost use Rattle.std.specs.Prelude.{◌≡◌, ◌+◌, ◌*◌, ◌/◌, ◌<◌, ◌≤◌, ◌++◌, ◌∷◌, ℕ, List, [], codes, length, replicate};
 ghost use Rattle.base64.specs.GeneralPurpose.{IsBytes};
 ghost use Rattle.digest_mac.specs.Digests.{block_size, digest, digest_size, digits, keyed_digest};
-ghost use Rattle.digest_mac.specs.Labels.{multibase_text};
+ghost use Rattle.digest_mac.specs.Labels.{hmac_label, multibase_text};
 ghost use Rattle.digest_mac.specs.declared.hash.Hash.{Hash};
 ghost use Rattle.digest_mac.specs.declared.hash.Hash.TheVariants.{Sha256, Sha384};
 
@@ -60,4 +60,12 @@ pub fn a_digest_is_bytes()
 pub fn different_bytes_have_different_labels()
     ensures { (one other : List ℕ) → IsBytes one → IsBytes other
         → multibase_text one ≡ multibase_text other → one ≡ other }
+{}
+
+/// Labels of canonical numbers under a key, as another implementation gives them.
+pub fn labels_of_known_numbers()
+    ensures sha256 { hmac_label Sha256 (codes "0123456789abcdef0123456789abcdef") 0
+        ≡ codes "ucRt1fM5B2cAl-M9hZZZzYddcGFUxPO-tu8yOwNPCCTk" }
+    ensures sha384 { hmac_label Sha384 (codes "0123456789abcdef0123456789abcdef") 10
+        ≡ codes "uVvKa_Xg8kh2ETrixafH7lwRZoYkrBAwQPFywVPm0N7Fo4MSeOv0FCycXsDDbbTFD" }
 {}

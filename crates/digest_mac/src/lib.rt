@@ -13,8 +13,6 @@ mod hash;
 mod label;
 pub mod laws;
 mod mac;
-#[cfg(test)]
-mod tests;
 mod values;
 
 pub use base_types::{Memory, Text};

@@ -14,8 +14,6 @@ mod places;
 mod reading;
 mod resolving;
 mod splitting;
-#[cfg(test)]
-mod tests;
 
 pub use base_types::{Memory, Text};
 pub use fault::{BadAt, IriFault};

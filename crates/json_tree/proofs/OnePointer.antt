@@ -65,7 +65,8 @@ name-no_slash (c ∷ cs) = no_slash-append (escaped c) (flat_map escaped cs) (es
 decimal-no_slash : (n : ℕ) → n < 2 ^ 64 → HasNoSlash (decimal n)
 decimal-no_slash = decimal_by_steps (λ n ds. HasNoSlash ds) (λ n small. ((λ e. omega arith), tt)) (λ n ds great before. no_slash-append ds ((48 + n % 10) ∷ []) before ((λ e. omega arith), tt))
 
-below_word : (n : ℕ) → nat_lt n (2 ^ 64) ≡ true → n < 2 ^ 64
+-- what the test of words says is below one is a word
+pub below_word : (n : ℕ) → nat_lt n (2 ^ 64) ≡ true → n < 2 ^ 64
 below_word n h = grind (arith, nat_tests)
 
 -- a token holds no `/`

@@ -26,6 +26,7 @@ use Rattle.json_tree.proofs.Compact.{read_back}
 use Rattle.json_tree.proofs.Depths.{levels_of-tree_of}
 use Rattle.json_tree.proofs.Equations.{data_of-Null, data_of-Bool, data_of-Whole, data_of-Version, data_of-Text, data_of-List, data_of-Object, renumbered-Null, renumbered-Bool, renumbered-Whole, renumbered-Version, renumbered-Text, renumbered-List, renumbered-Object, levels_of-Null, levels_of-Bool, levels_of-Whole, levels_of-Version, levels_of-Text, levels_of-List, levels_of-Object, misplaced-List, misplaced-Object, datum}
 use Rattle.json_tree.proofs.Kept.{none_first, none_later}
+use Rattle.base_types.proofs.Options.{is_none-true}
 
 -- ---- the value of a tree is that of the tree renumbered
 
@@ -116,10 +117,6 @@ misplaced-renumbered = by_cases StaysPlaced record {
 
 -- ---- together
 
-nothing_there : (o : Option (List Step)) → is_none o ≡ true → o ≡ None
-nothing_there (Some p) h = absurd (cc)
-nothing_there None h = refl
-
 -- a tree numbered anew has as many levels
 pub levels_of-renumbered : (t : Tree) → levels_of (renumbered t) ≡ levels_of t
 levels_of-renumbered t = ap levels_of (sym (tree_of-data_of t)) ∙ levels_of-tree_of (data_of t) ∙ depth-data_of t
@@ -131,5 +128,5 @@ round_trip t bytes printed same back utf8 made well shallow placed =
     let spelled : json.read bytes ≡ Some (data_of t) = read_back t bytes (ap tokens same ∙ back ∙ made) well.lawful well.in_range fits in (
       record { value = data_of t; spelled = (rw same utf8, spelled); is = sym (tree_of-data_of t) },
       rw (levels_of-renumbered t) shallow,
-      misplaced-renumbered t false (nothing_there (misplaced t false) placed),
+      misplaced-renumbered t false (is_none-true (misplaced t false) placed),
     )

@@ -113,7 +113,8 @@ same_later b c bs cs risen rise first same s place = elim (cases_Bool (step_eq b
       ap (level_from place) (sym (at_step-later b bs s other)) ∙ same s place ∙ ap (level_from place) (at_step-later c cs s another)
 ]
 
-one_branch : (b c : Branch) → b.step ≡ c.step → b.value ≡ c.value → b ≡ c
+-- a branch is its step and its value
+pub one_branch : (b c : Branch) → b.step ≡ c.step → b.value ≡ c.value → b ≡ c
 one_branch b c e f = ap (λ (s : Step). let r : Branch = record { step = s; value = b.value } in r) e ∙ ap (λ (t : Tree). let r : Branch = record { step = c.step; value = t } in r) f
 
 first_step : (s r : Step) (ss rs : List Step) → s ∷ ss ≡ r ∷ rs → (s ≡ r) × (ss ≡ rs)

@@ -70,7 +70,8 @@ differs-back (Key key) (Key name) h = bytes_eq-false name key (λ e. bytes_eq-di
 abbrev pub ComesBefore : Step → List Branch → Type 0
 ComesBefore s bs = Each (λ (b : Branch). Precedes s b.step) bs
 
-before_later : (s r : Step) (bs : List Branch) → Precedes s r → ComesBefore r bs → ComesBefore s bs
+-- what comes before a step comes before all that this step comes before
+pub before_later : (s r : Step) (bs : List Branch) → Precedes s r → ComesBefore r bs → ComesBefore s bs
 before_later s r [] a e = tt
 before_later s r (b ∷ bs) a e = (precedes-transitive s r b.step a e.0, before_later s r bs a e.1)
 

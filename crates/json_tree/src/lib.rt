@@ -17,8 +17,6 @@ mod place;
 mod pointer;
 mod printing;
 mod reading;
-#[cfg(test)]
-mod tests;
 mod tree;
 
 pub use base_types::{Items, Memory, Sequence, Text};

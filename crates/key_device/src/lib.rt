@@ -16,8 +16,6 @@ mod keys;
 pub mod laws;
 mod ledger;
 mod table;
-#[cfg(test)]
-mod tests;
 mod uses;
 
 pub use base_types::{Memory, Sequence, Text};

@@ -13,8 +13,6 @@ mod parts;
 mod plain;
 mod reduced;
 mod statements;
-#[cfg(test)]
-mod tests;
 
 pub use base_types::{Memory, Sequence, Text};
 pub use fault::FlatFault;

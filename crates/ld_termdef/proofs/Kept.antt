@@ -1,6 +1,7 @@
 -- What a context object leaves as it was: terms without an entry, a context without entries, protected
 -- terms.
 use Rattle.std.proofs.Common.{◌≡◌, inl, inr, ℕ, List, [], Bool, true, false, ◌&&◌, ◌||◌, not, Option, Some, None, option_and_then, is_some, refl, sym, ap, subst, ◌∙◌}
+use Rattle.std.proofs.lemmas.Bool.{or_right}
 use Rattle.json_tree.specs.declared.tree.Tree.{out-Tree}
 use Rattle.ld_termdef.specs.declared.definition.TermDef.{TermDef}
 use Rattle.ld_termdef.specs.Checked.{value_or}
@@ -37,13 +38,9 @@ unchanged g none =
 abbrev pub Stays : Option TermDef → TermDef → Type 0
 Stays now old = (new : TermDef) × (now ≡ Some new) × (new.protected ≡ true) × (without_flag new ≡ without_flag old)
 
-or_true : (a b : Bool) → b ≡ true → (a || b) ≡ true
-or_true true b is = refl
-or_true false b is = is
-
 flag_stays : (g : Given) (t : List ℕ) (own : Option Bool) (old : TermDef) → g.change ≡ false → g.before.terms t ≡ Some old → old.protected ≡ true → protected_flag g t own ≡ true
 flag_stays g t own old fixed was protected =
-    or_true (flag_or g.protect own) (not g.change && is_protected (g.before.terms t)) (ap (λ b. not b && is_protected (g.before.terms t)) fixed ∙ ap is_protected was ∙ protected)
+    or_right (flag_or g.protect own) (not g.change && is_protected (g.before.terms t)) (ap (λ b. not b && is_protected (g.before.terms t)) fixed ∙ ap is_protected was ∙ protected)
 
 may_keep : (change : Bool) (old new : TermDef) → change ≡ false → old.protected ≡ true → MayReplace change (Some old) new → without_flag new ≡ without_flag old
 may_keep change old new fixed protected (inl e) = let x : false ≡ true = sym fixed ∙ e in absurd (cc)

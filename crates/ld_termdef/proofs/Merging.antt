@@ -148,7 +148,8 @@ rise-unique (d ∷ ds) (e ∷ es) rise other same =
     let rest = rise-unique ds es (rise-tail d ds rise) (rise-tail e es other) (rest-same d e ds es rise other alike same) in
     λ j. alike j ∷ rest j
 
-or_else-assoc : {A : Type 0} (a b c : Option A) → or_else (or_else a b) c ≡ or_else a (or_else b c)
+-- the first of three, however they are grouped
+pub or_else-assoc : {A : Type 0} (a b c : Option A) → or_else (or_else a b) c ≡ or_else a (or_else b c)
 or_else-assoc (Some x) b c = refl
 or_else-assoc None b c = refl
 

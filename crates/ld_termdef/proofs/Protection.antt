@@ -1,7 +1,7 @@
 -- Whether a definition is protected, asked of the layers.
 use Rattle.std.proofs.Common.{◌≡◌, ◌↔◌, ℕ, List, [], ◌∷◌, Bool, true, false, ◌&&◌, ◌||◌, cond, find, Option, Some, None, option_map, is_none, bytes_eq, refl, sym, ap, ◌∙◌}
 use Rattle.std.specs.List.{list_any}
-use Rattle.std.proofs.lemmas.Bool.{or_parts}
+use Rattle.std.proofs.lemmas.Bool.{or_parts, or_from}
 use Rattle.base_types.proofs.Orders.{bytes_eq-true}
 use Rattle.json_tree.specs.Places.{or_else}
 use Rattle.ld_termdef.specs.declared.definition.TermDef.{TermDef}
@@ -55,10 +55,6 @@ behind e es rise t d is = go (bytes_eq e.term t) refl
     go true at = let none : definition_in es t ≡ None = ap (definition_in es) (sym (bytes_eq-true e.term t at)) ∙ none-behind e es rise in absurd (cc)
     go false at = definition-first e es t ∙ ap (λ b. cond b (Some e.def) (definition_in es t)) at ∙ is
 
-or-false : (a b : Bool) → a ≡ false → b ≡ false → (a || b) ≡ false
-or-false true b one two = absurd (cc)
-or-false false b one two = two
-
 and-false : (a b : Bool) → (b ≡ true → a ≡ false) → (a && b) ≡ false
 and-false true true if = let no : true ≡ false = if refl in absurd (cc)
 and-false true false if = refl
@@ -67,7 +63,7 @@ and-false false b if = refl
 none-over : (es : List TermEntry) → terms_rise es ≡ true → NoneProtected (definition_in es) → list_any (λ e. e.def.protected) es ≡ false
 none-over [] rise none = refl
 none-over (e ∷ es) rise none =
-    or-false e.def.protected (list_any (λ e. e.def.protected) es) (none e.term e.def (own-definition e es)) (none-over es (rise-tail e es rise) (λ t d is. none t d (behind e es rise t d is)))
+    or_from e.def.protected (list_any (λ e. e.def.protected) es) (none e.term e.def (own-definition e es)) (none-over es (rise-tail e es rise) (λ t d is. none t d (behind e es rise t d is)))
 
 absent-by : (over : List TermEntry) (t : List ℕ) → is_none (find (λ d. bytes_eq d.term t) over) ≡ true → definition_in over t ≡ None
 absent-by over t is = go (find (λ d. bytes_eq d.term t) over) is
@@ -79,7 +75,7 @@ absent-by over t is = go (find (λ d. bytes_eq d.term t) over) is
 none-under : (over es : List TermEntry) → terms_rise es ≡ true → ((t : List ℕ) (d : TermDef) → definition_in over t ≡ None → definition_in es t ≡ Some d → d.protected ≡ false) → list_any (shows_protected over) es ≡ false
 none-under over [] rise none = refl
 none-under over (e ∷ es) rise none =
-    or-false (shows_protected over e) (list_any (shows_protected over) es) (and-false e.def.protected (is_none (find (λ d. bytes_eq d.term e.term) over)) (λ away. none e.term e.def (absent-by over e.term away) (own-definition e es))) (none-under over es (rise-tail e es rise) (λ t d away is. none t d away (behind e es rise t d is)))
+    or_from (shows_protected over e) (list_any (shows_protected over) es) (and-false e.def.protected (is_none (find (λ d. bytes_eq d.term e.term) over)) (λ away. none e.term e.def (absent-by over e.term away) (own-definition e es))) (none-under over es (rise-tail e es rise) (λ t d away is. none t d away (behind e es rise t d is)))
 
 -- the two layers have a protected definition where their list has one
 pub protected-layers : (over under whole : List TermEntry) (result : Bool) → whole ≡ overlay_of over under → terms_rise over ≡ true → terms_rise under ≡ true → result ≡ (list_any (λ e. e.def.protected) over || list_any (shows_protected over) under) → (result ≡ false) ↔ ((t : List ℕ) (d : TermDef) → definition_in whole t ≡ Some d → d.protected ≡ false)
@@ -98,6 +94,6 @@ protected-layers over under whole result is rise below said = (forth, back)
     back : ((t : List ℕ) (d : TermDef) → definition_in whole t ≡ Some d → d.protected ≡ false) → result ≡ false
     back none =
         said
-        ∙ or-false (list_any (λ e. e.def.protected) over) (list_any (shows_protected over) under)
+        ∙ or_from (list_any (λ e. e.def.protected) over) (list_any (shows_protected over) under)
         (none-over over rise (λ t d here. none t d (found t ∙ ap (λ o. or_else o (definition_in under t)) here)))
         (none-under over under below (λ t d away here. none t d (found t ∙ ap (λ o. or_else o (definition_in under t)) away ∙ here)))

@@ -15,15 +15,12 @@ use Rattle.ld_termdef.specs.Words.{keyword_of, has_keyword_form, looks_like_keyw
 use Rattle.ld_termdef.specs.Contexts.{Context}
 use Rattle.ld_termdef.specs.Iris.{has_terms, has_base, alias_of, reading_of, prefix_iri, row, blank_row, slashes_row, compact_row, vocab_row, base_row, term_rows, other_rows, reads, reads_apart}
 use Rattle.ld_termdef.specs.Internal.Readings.{keyword_row, mapped_row, parts_row, colon_row, resolved_row}
+use Rattle.ld_termdef.proofs.Merging.{or_else-assoc}
 
 -- what a call gives is what another definition says
 pub ok-same : {A E : Type 0} (r : Result A E) (a b : A) → IfOk r (λ x. x ≡ a) → a ≡ b → IfOk r (λ x. x ≡ b)
 ok-same (Ok x) a b is same = is ∙ same
 ok-same (Err e) a b is same = is
-
-or_else-assoc : {A : Type 0} (a b c : Option A) → or_else (or_else a b) c ≡ or_else a (or_else b c)
-or_else-assoc (Some x) b c = refl
-or_else-assoc None b c = refl
 
 or_else-none : {A : Type 0} (a : Option A) → or_else a None ≡ a
 or_else-none (Some x) = refl

@@ -16,8 +16,6 @@ mod definition;
 mod definitions;
 pub mod laws;
 mod reading;
-#[cfg(test)]
-mod tests;
 
 pub use base::BaseIri;
 pub use base_types::{Memory, Sequence, Shared, Text};

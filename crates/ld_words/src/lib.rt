@@ -10,8 +10,6 @@
 mod code_table;
 mod keyword_table;
 mod laws;
-#[cfg(test)]
-mod tests;
 
 pub use code_table::Code;
 pub use keyword_table::{LdKeyword, is_keyword_form, keyword};

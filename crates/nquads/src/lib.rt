@@ -26,16 +26,10 @@ mod numbers;
 mod parts;
 mod quads;
 mod reading;
-#[cfg(test)]
-mod reading_tests;
 mod spelling;
 mod storing;
 mod terms;
-#[cfg(test)]
-mod tests;
 mod written;
-#[cfg(test)]
-mod written_tests;
 
 pub use base_types::{Memory, Sequence, Text};
 pub use fault::NqFault;

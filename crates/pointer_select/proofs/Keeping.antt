@@ -1,7 +1,7 @@
 -- Which places are kept: the test by which the part is made agrees with the definition.
 use Rattle.std.proofs.Common.{◌≡◌, ℕ, List, [], ◌∷◌, ◌++◌, Bool, true, false, ◌&&◌, ◌||◌, Some, None, if◌then◌else◌, Contains, refl, sym, ap, ◌∙◌, subst, append_assoc, inl, inr}
 use Rattle.std.specs.List.{list_any, cons_option}
-use Rattle.std.proofs.lemmas.Bool.{cases_Bool, true≢false, and_parts, and_from}
+use Rattle.std.proofs.lemmas.Bool.{cases_Bool, true≢false, and_parts, and_from, or_right}
 use Rattle.base_types.proofs.Lists.{Contains-here, Contains-there, Contains-cons_cases, Contains-nil}
 use Rattle.json_tree.specs.declared.place.Step.{Step}
 use Rattle.json_tree.specs.declared.place.Step.TheVariants.{Key, At}
@@ -55,12 +55,8 @@ kept_for (q ∷ qs) (s ∷ ss) h = elim (cases_Bool (is_kept_step s)) [
       subst (λ (r : Step). IsKeptFor (r ∷ qs) (s ∷ ss)) (sym (is_step-true q s both.0)) (for_both s qs ss (kept_for qs ss both.1))
 ]
 
-or_from : (a b : Bool) → b ≡ true → (a || b) ≡ true
-or_from true b h = refl
-or_from false b h = h
-
 one_more : (s : Step) (q p : List Step) → keeps_one q p ≡ true → keeps_one (s ∷ q) (s ∷ p) ≡ true
-one_more s q p h = or_from (is_kept_step s) _ (and_from (is_step s s) (keeps_one q p) (is_step-itself s) h)
+one_more s q p h = or_right (is_kept_step s) _ (and_from (is_step s s) (keeps_one q p) (is_step-itself s) h)
 
 up_to : (p rest : List Step) → keeps_one (p ++ rest) p ≡ true
 up_to [] rest = one_root rest
@@ -99,7 +95,7 @@ one_any : {X : Type 0} (test : X → Bool) (xs : List X) (x : X) → Contains xs
 one_any test [] x c h = absurd (Contains-nil x c)
 one_any test (y ∷ ys) x c h = elim (Contains-cons_cases y ys x c) [
   | inl this ↦ ap (λ (b : Bool). b || list_any test ys) (ap test this ∙ h)
-  | inr later ↦ or_from (test y) (list_any test ys) (one_any test ys x later h)
+  | inr later ↦ or_right (test y) (list_any test ys) (one_any test ys x later h)
 ]
 
 -- whether a place is kept for some
@@ -185,4 +181,4 @@ pub all_kept : (places : List (List Step)) → one_ends places ≡ true → (pla
 all_kept places h [] = refl
 all_kept places h (s ∷ ss) =
     let below = is_some_left (after_steps s places) && keeps (after_steps s places) ss in
-    or_from (is_kept_step s) (one_ends places || below) (ap (λ (b : Bool). b || below) h)
+    or_right (is_kept_step s) (one_ends places || below) (ap (λ (b : Bool). b || below) h)

@@ -4,7 +4,7 @@ use Rattle.std.specs.List.{list_any, list_all}
 use Rattle.std.proofs.lemmas.Bool.{cases_Bool, true≢false, and_parts}
 use Rattle.std.proofs.lemmas.Bool.Decides.{nat_tests}
 use Rattle.std.proofs.lemmas.Option.{none-some}
-use Rattle.std.proofs.lemmas.List.{drop_all, length-map, get_or-map}
+use Rattle.std.proofs.lemmas.List.{drop_all, length-map, get_or-map, get_or_default}
 use denote.Ref.{Bor}
 use Rattle.base_types.specs.declared.memory.Memory.{Memory}
 use Rattle.base_types.proofs.Lists.{drop-next}
@@ -198,11 +198,6 @@ no_group [] (suc k) h = refl
 no_group (x ∷ xs) zero h = absurd (none-some x h)
 no_group (x ∷ xs) (suc k) h = no_group xs k h
 
-any_there : {A : Type 0} (xs : List A) (k : ℕ) (d e : A) → k < length xs → get_or xs k d ≡ get_or xs k e
-any_there [] k d e inside = absurd (omega arith)
-any_there (x ∷ xs) zero d e inside = refl
-any_there (x ∷ xs) (suc k) d e inside = any_there xs k d e (omega arith)
-
 some_lead : (g : List (Bor (List Step))) (empty : Bool) → (g ≡ [] → empty ≡ true) → empty ≡ false → is_none_left (slices g) ≡ false
 some_lead [] empty told no' = absurd (true≢false (sym (told refl) ∙ no'))
 some_lead (x ∷ xs) empty told no' = refl
@@ -214,8 +209,8 @@ item_stays items groups k d e g s empty value whole done new is inside short the
     let group = group_there groups k g short there in
     let some = some_lead g empty told no' in
     let stays : Some value ≡ item_value (slices g) i = ap Some (made ∙ ap (λ ps. restricted i.value (keeps (slices ps))) same) ∙ sym (ap (λ (b : Bool). if b then None else Some (restricted i.value (keeps (slices g)))) some) in
-    parts_more item_part (groups_now groups) items k (slices g) i whole done new is group.0 inside group.1 (any_there items k d i inside)
-    (longer ∙ ap (λ (j : Item Tree). done ++ element j.at value ∷ []) (any_there items k e d inside) ∙ ap (λ o. done ++ with_item_value i o) stays)
+    parts_more item_part (groups_now groups) items k (slices g) i whole done new is group.0 inside group.1 (get_or_default items k d i inside)
+    (longer ∙ ap (λ (j : Item Tree). done ++ element j.at value ∷ []) (get_or_default items k e d inside) ∙ ap (λ o. done ++ with_item_value i o) stays)
 
 -- an element is left out
 pub item_goes : (items : List (Item Tree)) (groups : List (List (Bor (List Step)))) (k : ℕ) (g : List (Bor (List Step))) (whole done new : List (Item Tree)) → whole ≡ done ++ parts_of item_part (drop k (groups_now groups)) (drop k items) → k < length items → true ≡ nat_lt k (length groups) → g ≡ get_or groups k g → g ≡ [] → new ≡ done → whole ≡ new ++ parts_of item_part (drop (k + 1) (groups_now groups)) (drop (k + 1) items)
@@ -224,7 +219,7 @@ item_goes items groups k g whole done new is inside short there none as_was =
     let i = get_or items k d in
     let group = group_there groups k g short there in
     let goes : None ≡ item_value (slices g) i = sym (ap (λ ps. item_value (slices ps) i) none) in
-    parts_more item_part (groups_now groups) items k (slices g) i whole done new is group.0 inside group.1 (any_there items k d i inside)
+    parts_more item_part (groups_now groups) items k (slices g) i whole done new is group.0 inside group.1 (get_or_default items k d i inside)
     (as_was ∙ sym (append-nil done) ∙ ap (λ o. done ++ with_item_value i o) goes)
 
 named_as : (members : List (Member Tree)) (k : ℕ) (d : Member Tree) (text : List ℕ) (b c : Bool) → b ≡ is_kept_name text → text ≡ (get_or members k d).key → b ≡ c → is_kept_name (get_or members k d).key ≡ c
@@ -236,9 +231,9 @@ member_kept members groups k d e f g text b value whole done new is inside short
     let m = get_or members k d in
     let group = group_there groups k g short there in
     let name = named_as members k d text b true told named kept in
-    let stays : Some value ≡ member_value (slices g) m = ap Some (made ∙ ap (λ (n : Member Tree). n.value) (any_there members k e d inside)) ∙ sym (ap (λ (b : Bool). if b then Some m.value else (if is_none_left (slices g) then None else Some (restricted m.value (keeps (slices g))))) name) in
-    parts_more member_part (groups_now groups) members k (slices g) m whole done new is group.0 inside group.1 (any_there members k d m inside)
-    (longer ∙ ap (λ (n : Member Tree). done ++ new_member n.key value ∷ []) (any_there members k f d inside) ∙ ap (λ o. done ++ with_member_value m o) stays)
+    let stays : Some value ≡ member_value (slices g) m = ap Some (made ∙ ap (λ (n : Member Tree). n.value) (get_or_default members k e d inside)) ∙ sym (ap (λ (b : Bool). if b then Some m.value else (if is_none_left (slices g) then None else Some (restricted m.value (keeps (slices g))))) name) in
+    parts_more member_part (groups_now groups) members k (slices g) m whole done new is group.0 inside group.1 (get_or_default members k d m inside)
+    (longer ∙ ap (λ (n : Member Tree). done ++ new_member n.key value ∷ []) (get_or_default members k f d inside) ∙ ap (λ o. done ++ with_member_value m o) stays)
 
 -- another member stays
 pub member_stays : (members : List (Member Tree)) (groups : List (List (Bor (List Step)))) (k : ℕ) (d e f : Member Tree) (g s : List (Bor (List Step))) (text : List ℕ) (b empty : Bool) (value : Tree) (whole done new : List (Member Tree)) → whole ≡ done ++ parts_of member_part (drop k (groups_now groups)) (drop k members) → k < length members → true ≡ nat_lt k (length groups) → g ≡ get_or groups k g → b ≡ is_kept_name text → text ≡ (get_or members k d).key → b ≡ false → (g ≡ [] → empty ≡ true) → empty ≡ false → s ≡ g → value ≡ restricted (get_or members k e).value (keeps (slices s)) → new ≡ done ++ new_member (get_or members k f).key value ∷ [] → whole ≡ new ++ parts_of member_part (drop (k + 1) (groups_now groups)) (drop (k + 1) members)
@@ -248,10 +243,10 @@ member_stays members groups k d e f g s text b empty value whole done new is ins
     let name = named_as members k d text b false told named other in
     let some = some_lead g empty bare no' in
     let stays : Some value ≡ member_value (slices g) m =
-    ap Some (made ∙ ap (λ (n : Member Tree). restricted n.value (keeps (slices s))) (any_there members k e d inside) ∙ ap (λ ps. restricted m.value (keeps (slices ps))) same)
+    ap Some (made ∙ ap (λ (n : Member Tree). restricted n.value (keeps (slices s))) (get_or_default members k e d inside) ∙ ap (λ ps. restricted m.value (keeps (slices ps))) same)
     ∙ sym (ap (λ (b : Bool). if b then Some m.value else (if is_none_left (slices g) then None else Some (restricted m.value (keeps (slices g))))) name ∙ ap (λ (b : Bool). if b then None else Some (restricted m.value (keeps (slices g)))) some) in
-    parts_more member_part (groups_now groups) members k (slices g) m whole done new is group.0 inside group.1 (any_there members k d m inside)
-    (longer ∙ ap (λ (n : Member Tree). done ++ new_member n.key value ∷ []) (any_there members k f d inside) ∙ ap (λ o. done ++ with_member_value m o) stays)
+    parts_more member_part (groups_now groups) members k (slices g) m whole done new is group.0 inside group.1 (get_or_default members k d m inside)
+    (longer ∙ ap (λ (n : Member Tree). done ++ new_member n.key value ∷ []) (get_or_default members k f d inside) ∙ ap (λ o. done ++ with_member_value m o) stays)
 
 -- a member is left out
 pub member_goes : (members : List (Member Tree)) (groups : List (List (Bor (List Step)))) (k : ℕ) (d : Member Tree) (g : List (Bor (List Step))) (text : List ℕ) (b : Bool) (whole done new : List (Member Tree)) → whole ≡ done ++ parts_of member_part (drop k (groups_now groups)) (drop k members) → k < length members → true ≡ nat_lt k (length groups) → g ≡ get_or groups k g → b ≡ is_kept_name text → text ≡ (get_or members k d).key → b ≡ false → g ≡ [] → new ≡ done → whole ≡ new ++ parts_of member_part (drop (k + 1) (groups_now groups)) (drop (k + 1) members)
@@ -260,7 +255,7 @@ member_goes members groups k d g text b whole done new is inside short there tol
     let group = group_there groups k g short there in
     let name = named_as members k d text b false told named other in
     let goes : None ≡ member_value (slices g) m = sym (ap (λ (b : Bool). if b then Some m.value else (if is_none_left (slices g) then None else Some (restricted m.value (keeps (slices g))))) name ∙ ap (λ ps. if is_none_left (slices ps) then None else Some (restricted m.value (keeps (slices ps)))) none) in
-    parts_more member_part (groups_now groups) members k (slices g) m whole done new is group.0 inside group.1 (any_there members k d m inside)
+    parts_more member_part (groups_now groups) members k (slices g) m whole done new is group.0 inside group.1 (get_or_default members k d m inside)
     (as_was ∙ sym (append-nil done) ∙ ap (λ o. done ++ with_member_value m o) goes)
 
 -- no group is left

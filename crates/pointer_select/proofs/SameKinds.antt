@@ -19,7 +19,8 @@ use Rattle.json_tree.specs.Places.{look}
 use Rattle.json_tree.specs.Trees.{is_lawful, element, new_member}
 use Rattle.json_tree.proofs.Branches.{Branch, of_item, of_member, branches_in, branches_of, at_step, step_eq, child_of-branches, by_branches, StepsRise, lawful_branches}
 use Rattle.json_tree.proofs.Induction.{Each}
-use Rattle.json_tree.proofs.StepOrder.{step_eq-itself, step_eq-true, Precedes, precedes-transitive, ComesBefore, first_comes_before, at_step-none, at_step-first, at_step-later}
+use Rattle.json_tree.proofs.StepOrder.{step_eq-itself, step_eq-true, Precedes, precedes-transitive, ComesBefore, first_comes_before, at_step-none, at_step-first, at_step-later, before_later}
+use Rattle.json_tree.proofs.SameLevels.{one_branch}
 use Rattle.pointer_select.specs.Selection.{kind_in, kind_at}
 
 -- ---- a kind and branches make up a level
@@ -107,10 +108,6 @@ here b bs = at_step-first b bs b.step (step_eq-itself b.step)
 missing : (b : Branch) (bs cs : List Branch) → SameFrom (b ∷ bs) cs → at_step b.step cs ≡ None → ⊥
 missing b bs cs same none = none-some (kind_in (out-Tree b.value)) (sym (sym (ap (kind_from []) (here b bs)) ∙ same b.step [] ∙ ap (kind_from []) none))
 
-before_later : (s r : Step) (ds : List Branch) → Precedes s r → ComesBefore r ds → ComesBefore s ds
-before_later s r [] low after = tt
-before_later s r (d ∷ ds) low after = (precedes-transitive s r d.step low after.0, before_later s r ds low after.1)
-
 before_all : (s : Step) (c : Branch) (cs : List Branch) → Precedes s c.step → StepsRise (c ∷ cs) → at_step s (c ∷ cs) ≡ None
 before_all s c cs low rise = at_step-none s (c ∷ cs) (low, before_later s c.step cs low (first_comes_before c cs rise))
 
@@ -125,9 +122,6 @@ same_later b c bs cs risen rise first same s place = elim (cases_Bool (step_eq b
       let another : step_eq c.step s ≡ false = ap (λ (r : Step). step_eq r s) (sym first) ∙ other in
       ap (kind_from place) (sym (at_step-later b bs s other)) ∙ same s place ∙ ap (kind_from place) (at_step-later c cs s another)
 ]
-
-one_branch : (b c : Branch) → b.step ≡ c.step → b.value ≡ c.value → b ≡ c
-one_branch b c e f = ap (λ (s : Step). let r : Branch = record { step = s; value = b.value } in r) e ∙ ap (λ (t : Tree). let r : Branch = record { step = c.step; value = t } in r) f
 
 same_branches : (bs cs : List Branch) → Each (λ (b : Branch). IsMade b.value) bs → StepsRise bs → StepsRise cs → AreLawfulEach bs → AreLawfulEach cs → SameFrom bs cs → bs ≡ cs
 same_branches [] [] made risen rise lawful fine same = refl

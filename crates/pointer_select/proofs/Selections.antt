@@ -3,6 +3,7 @@ use Rattle.std.proofs.Common.{◌≡◌, ◌≤◌, ◌+◌, ℕ, ℤ, suc, Bool
 use Rattle.std.specs.List.{position_or_len}
 use Rattle.std.proofs.lemmas.Bool.Decides.{nat_tests}
 use Rattle.base_types.proofs.Lists.{Contains-here, Contains-there, Contains-cons_cases, Contains-nil}
+use Rattle.base_types.proofs.Options.{is_none-true}
 use Rattle.std.proofs.lemmas.Bool.{cases_Bool, true≢false}
 use Rattle.std.proofs.lemmas.List.{append-nil}
 use Rattle.std.proofs.lemmas.Option.{same_Some, none-some}
@@ -247,13 +248,9 @@ passed_on pointers t part places pointed seen lawful some named steps same is =
 pub stays_well_formed : (pointers : List (List (List ℕ))) (t part : Tree) → IsSelection pointers t part → IsWellFormed t → IsWellFormed part
 stays_well_formed pointers t part s w = part_well_formed s.places t part s.restricts w
 
-none_from : (o : Option (List Step)) → is_none o ≡ true → o ≡ None
-none_from None h = refl
-none_from (Some p) h = absurd (true≢false (sym h))
-
 -- and version numbers where they may stand
 pub stays_placed : (pointers : List (List (List ℕ))) (t part : Tree) → IsSelection pointers t part → is_placed t ≡ true → is_placed part ≡ true
-stays_placed pointers t part s h = ap is_none (part_versions s.places t part false s.restricts (none_from (misplaced t false) h))
+stays_placed pointers t part s h = ap is_none (part_versions s.places t part false s.restricts (is_none-true (misplaced t false) h))
 
 -- and nests no deeper
 pub stays_shallow : (t part : Tree) (places : List (List Step)) → part ≡ restricted t (keeps places) → nesting_of part ≤ nesting_of t

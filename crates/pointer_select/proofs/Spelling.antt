@@ -9,6 +9,7 @@ use Rattle.std.proofs.lemmas.Fmt.{decimal_by_steps}
 use Rattle.std.proofs.lemmas.List.Concat.{flat_map-append}
 use Rattle.std.proofs.lemmas.Option.{same_Some, none-some, option_and_then_some}
 use Rattle.base_types.proofs.Orders.{bytes_eq-true}
+use Rattle.base_types.proofs.Options.{option_map-Some}
 use Rattle.json_tree.specs.declared.tree.Tree.{Tree, out-Tree}
 use Rattle.json_tree.specs.declared.tree.Tree.TheOpen.{Tree-F}
 use Rattle.json_tree.specs.declared.tree.Tree.TheVariants as v
@@ -22,6 +23,8 @@ use Rattle.json_tree.proofs.Equations.{renumbered-List, renumbered-Object}
 use Rattle.json_tree.proofs.Escapes.{escaped-other}
 use Rattle.json_tree.proofs.Induction.{Each}
 use Rattle.json_tree.proofs.Kept.{child_has, is_list}
+use Rattle.json_tree.proofs.Sameness.{List-injective, Object-injective}
+use Rattle.json_tree.proofs.OnePointer.{below_word}
 use Rattle.pointer_select.specs.Naming.{element_from, step_in, step_of, place_of}
 use Rattle.pointer_select.specs.Pointers.{pointer_with}
 
@@ -39,12 +42,6 @@ plain_decimal = decimal_by_steps (λ n ds. flat_map escaped ds ≡ ds)
 
 abbrev IsNumbered : Tree → Type 0
 IsNumbered t = renumbered t ≡ t
-
-same_items : (xs ys : List (Item Tree)) → v.List xs ≡ v.List ys → xs ≡ ys
-same_items xs ys e = same_Some xs ys (sym (ap items_in (v.outs-List xs)) ∙ ap items_of e ∙ ap items_in (v.outs-List ys))
-
-same_members : (xs ys : List (Member Tree)) → v.Object xs ≡ v.Object ys → xs ≡ ys
-same_members xs ys e = same_Some xs ys (sym (ap members_in (v.outs-Object xs)) ∙ ap members_of e ∙ ap members_in (v.outs-Object ys))
 
 both_parts : {X : Type 0} (x y : X) (xs ys : List X) → x ∷ xs ≡ y ∷ ys → (x ≡ y) × (xs ≡ ys)
 both_parts x y xs ys e = (cc, cc)
@@ -73,18 +70,14 @@ numbered_members (m ∷ ms) e =
     (ap (λ (n : Member Tree). n.value) parts.0, numbered_members ms parts.1)
 
 items_numbered : (t : Tree) (items : List (Item Tree)) → IsNumbered t → t ≡ v.List items → numbered 0 (map (λ i. element i.at (renumbered i.value)) items) ≡ items
-items_numbered t items h is = same_items _ items (sym (renumbered-List items) ∙ ap renumbered (sym is) ∙ h ∙ is)
+items_numbered t items h is = List-injective _ items (sym (renumbered-List items) ∙ ap renumbered (sym is) ∙ h ∙ is)
 
 child_numbered : (t u : Tree) (s : Step) → IsNumbered t → child_of t s ≡ Some u → IsNumbered u
 child_numbered t u s h there =
     child_has IsNumbered t u s (λ items is. numbered_each 0 items (items_numbered t items h is))
-    (λ members is. numbered_members members (same_members _ members (sym (renumbered-Object members) ∙ ap renumbered (sym is) ∙ h ∙ is))) there
+    (λ members is. numbered_members members (Object-injective _ members (sym (renumbered-Object members) ∙ ap renumbered (sym is) ∙ h ∙ is))) there
 
 -- ---- one token
-
-mapped : {X Y : Type 0} (f : X → Y) (o : Option X) (y : Y) → option_map f o ≡ Some y → (x : X) × (o ≡ Some x) × (f x ≡ y)
-mapped f None y h = absurd (none-some y h)
-mapped f (Some x) y h = (x, refl, same_Some (f x) y h)
 
 found_passes : (key : List ℕ) (members : List (Member Tree)) (m : Member Tree) → find (λ m. bytes_eq m.key key) members ≡ Some m → bytes_eq m.key key ≡ true
 found_passes key [] m h = absurd (cc)
@@ -95,9 +88,6 @@ found_passes key (x ∷ xs) m h = elim (cases_Bool (bytes_eq x.key key)) [
   | inr other ↦ found_passes key xs m (sym (ap (λ (b : Bool). cond b (Some x) (find (λ m. bytes_eq m.key key) xs)) other) ∙ h)
 ]
 
-below_word : (n : ℕ) → nat_lt n (2 ^ 64) ≡ true → n < 2 ^ 64
-below_word n h = grind (arith, nat_tests)
-
 spelled_in : (t : Tree) (y : Tree-F Tree) (token : List ℕ) (s : Step) → out-Tree t ≡ y → IsNumbered t → step_in y token ≡ Some s → is_word_step s ≡ true → token_of s ≡ flat_map escaped token
 spelled_in t Tree-F.Null token s e n h w = absurd (none-some s h)
 spelled_in t (Tree-F.Bool b) token s e n h w = absurd (none-some s h)
@@ -105,13 +95,13 @@ spelled_in t (Tree-F.Whole z) token s e n h w = absurd (none-some s h)
 spelled_in t Tree-F.Version token s e n h w = absurd (none-some s h)
 spelled_in t (Tree-F.Text text) token s e n h w = absurd (none-some s h)
 spelled_in t (Tree-F.List items) token s e n h w =
-    let found = mapped (λ (i : Item Tree). At i.at) (element_from 0 token items) s h in
+    let found = option_map-Some (λ (i : Item Tree). At i.at) (element_from 0 token items) s h in
     let i = found.0 in
     let spelled = numbered_at 0 token items i (items_numbered t items n (is_list t items e)) found.1 in
     let small = below_word i.at (ap is_word_step found.2 ∙ w) in
     ap token_of (sym found.2) ∙ sym (plain_decimal i.at small) ∙ ap (flat_map escaped) (sym spelled)
 spelled_in t (Tree-F.Object members) token s e n h w =
-    let found = mapped (λ (m : Member Tree). Key m.key) (find (λ m. bytes_eq m.key token) members) s h in
+    let found = option_map-Some (λ (m : Member Tree). Key m.key) (find (λ m. bytes_eq m.key token) members) s h in
     ap token_of (sym found.2) ∙ ap (flat_map escaped) (bytes_eq-true found.0.key token (found_passes token members found.0 found.1))
 
 -- ---- all tokens
@@ -121,7 +111,7 @@ pub leads : (tokens : List (List ℕ)) (t : Tree) (place : List Step) → place_
 leads [] t place h none = none-some t (sym (ap (λ p. look p t) (same_Some [] place h) ∙ none))
 leads (token ∷ tokens) t place h none =
     option_and_then_some (λ (s : Step). below s (option_and_then (place_of tokens) (child_of t s))) (step_of t token) place h (λ s named further.
-    let rest = mapped (λ ss. s ∷ ss) (option_and_then (place_of tokens) (child_of t s)) place further in
+    let rest = option_map-Some (λ ss. s ∷ ss) (option_and_then (place_of tokens) (child_of t s)) place further in
     option_and_then_some (place_of tokens) (child_of t s) rest.0 rest.1 (λ u there onward.
     leads tokens u rest.0 onward (sym (ap (option_and_then (look rest.0)) there) ∙ ap (λ p. look p t) rest.2 ∙ none)))
 
@@ -130,7 +120,7 @@ pub spells_place : (tokens : List (List ℕ)) (t : Tree) (place : List Step) →
 spells_place [] t place n w h = sym (ap pointer_of (same_Some [] place h))
 spells_place (token ∷ tokens) t place n w h =
     option_and_then_some (λ (s : Step). below s (option_and_then (place_of tokens) (child_of t s))) (step_of t token) place h (λ s named further.
-    let rest = mapped (λ ss. s ∷ ss) (option_and_then (place_of tokens) (child_of t s)) place further in
+    let rest = option_map-Some (λ ss. s ∷ ss) (option_and_then (place_of tokens) (child_of t s)) place further in
     let words = and_parts (is_word_step s) (has_word_indexes rest.0) (ap has_word_indexes rest.2 ∙ w) in
     option_and_then_some (place_of tokens) (child_of t s) rest.0 rest.1 (λ u there onward.
     ap pointer_of (sym rest.2)

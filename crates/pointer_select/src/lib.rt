@@ -14,8 +14,6 @@ mod parting;
 mod pointer;
 mod reading;
 mod selecting;
-#[cfg(test)]
-mod tests;
 
 pub use base_types::{Memory, Sequence, Text};
 pub use fault::{PointerFault, SelectFault};

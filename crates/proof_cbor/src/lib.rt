@@ -28,5 +28,3 @@ pub use fault::{Part, ValueFault};
 pub use laws::a_text_has_one_outcome;
 pub use value::{BaseValue, DerivedValue, MapEntry};
 
-#[cfg(test)]
-mod tests;

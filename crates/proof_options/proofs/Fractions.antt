@@ -4,13 +4,13 @@ use Rattle.std.specs.Prelude.{All}
 use Rattle.std.proofs.lemmas.Bool.{cases_Bool, and_parts}
 use Rattle.std.proofs.lemmas.Bool.Decides.{nat_tests}
 use Rattle.std.proofs.lemmas.List.Elements.{All-nil, All-cons, All-head, All-tail}
+use Rattle.std.proofs.lemmas.Option.{some_pair_parts}
 use Rattle.base_types.proofs.Options.{option_map-Some}
 use Rattle.proof_options.specs.declared.reading.Shift.{Shift}
 use Rattle.proof_options.specs.declared.reading.Shift.TheVariants.{Utc, Ahead, Behind}
 use Rattle.proof_options.specs.Stamps.{Offset, utc, ahead, behind, digit, fraction_text, offset_text, IsFraction, IsOffset, fraction_nanoseconds}
 use Rattle.proof_options.specs.Internal.Reading.{Front, is_digit, run, after_run, run_from, fraction_from, clock_after, at_end, shift_from}
 use Rattle.proof_options.specs.Internal.Written.{offset_of}
-use Rattle.proof_options.proofs.Runs.{some_pair}
 use Rattle.proof_options.proofs.Spellings.{clock_reads, clock_spells}
 
 -- ---- runs
@@ -73,7 +73,7 @@ run_from_some : (text rest : List ℕ) (n : ℕ) → ◌≡◌ {A = Front ℕ} (
 run_from_some text rest n h = elim (cases_Bool (nat_le 1 (length (run text)) && nat_le (length (run text)) 9)) [
   | inl fits ↦
       let found : ◌≡◌ {A = Front ℕ} (run_from text) (Some (fraction_nanoseconds (run text), after_run text)) = rw fits refl in
-      let same = some_pair (fraction_nanoseconds (run text)) n (after_run text) rest (sym found ∙ h) in
+      let same = some_pair_parts (fraction_nanoseconds (run text)) n (after_run text) rest (sym found ∙ h) in
       let both = and_parts (nat_le 1 (length (run text))) _ fits in
       let low : 1 ≤ length (run text) = grind (arith, nat_tests, both.0) in
       let high : length (run text) ≤ 9 = grind (arith, nat_tests, both.1) in
@@ -91,7 +91,7 @@ run_from_some text rest n h = elim (cases_Bool (nat_le 1 (length (run text)) && 
 
 no_fraction : (text rest : List ℕ) (n : ℕ) → ◌≡◌ {A = Front ℕ} (Some (0, text)) (Some (n, rest)) → Fraction text rest n
 no_fraction text rest n h =
-    let same = some_pair 0 n text rest h in
+    let same = some_pair_parts 0 n text rest h in
     record { digits = []; is = record { at_most = omega arith; each = All-nil (λ d. d < 10) }; counts = same.0; spelled = same.1 }
 
 -- what was read is the text of a fraction
@@ -138,7 +138,7 @@ shift_spells (b ∷ bs) s h = elim (cases_Bool (b == 90)) [
   | inl is ↦
       let found : shift_from (b ∷ bs) ≡ at_end (Some (Utc, bs)) = rw is refl in
       let z : b ≡ 90 = grind (arith, nat_tests) in
-      let same = some_pair Utc s bs [] (before_end (Some (Utc, bs)) s (sym found ∙ h)) in
+      let same = some_pair_parts Utc s bs [] (before_end (Some (Utc, bs)) s (sym found ∙ h)) in
       ap (λ c. c ∷ bs) z ∙ ap (λ xs. 90 ∷ xs) same.1 ∙ ap (λ x. offset_text (offset_of x)) same.0
   | inr other ↦ elim (cases_Bool (b == 43)) [
     | inl is ↦

@@ -2,20 +2,9 @@
 use Rattle.std.proofs.Common.{◌≡◌, ℕ, ◌+◌, ◌-◌, ◌*◌, ◌/◌, ◌<◌, ◌≤◌, true, false, ◌&&◌, nat_le, List, [], ◌∷◌, length, Option, Some, None, inl, inr, refl, sym, ap, ◌∙◌, arith}
 use Rattle.std.proofs.lemmas.Bool.{cases_Bool}
 use Rattle.std.proofs.lemmas.Bool.Decides.{nat_tests}
+use Rattle.std.proofs.lemmas.Option.{some_pair_parts}
 use Rattle.proof_options.specs.Stamps.{tenths, fraction_nanoseconds}
 use Rattle.proof_options.specs.Internal.Reading.{is_digit, digit_from, run, after_run, run_from}
-
--- the parts of one pair
-pub some_pair : {A B : Type 0} (a c : A) (b d : B) → ◌≡◌ {A = Option (A × B)} (Some (a, b)) (Some (c, d)) → (a ≡ c) × (b ≡ d)
-some_pair {A} {B} a c b d h = (ap (first a) h, ap (second b) h)
-  where
-    first : A → Option (A × B) → A
-    first x None = x
-    first x (Some p) = p.0
-
-    second : B → Option (A × B) → B
-    second x None = x
-    second x (Some p) = p.1
 
 -- a digit at the front begins the run
 pub digit_begins : (text later : List ℕ) (d : ℕ) → Some (d, later) ≡ digit_from text → (run text ≡ d ∷ run later) × (after_run text ≡ after_run later)
@@ -25,7 +14,7 @@ digit_begins (b ∷ bs) later d h = elim (cases_Bool (is_digit b)) [
       let found : digit_from (b ∷ bs) ≡ Some (b - 48, bs) = rw is refl in
       let here : run (b ∷ bs) ≡ (b - 48) ∷ run bs = rw is refl in
       let after : after_run (b ∷ bs) ≡ after_run bs = rw is refl in
-      let same = some_pair d (b - 48) later bs (h ∙ found) in
+      let same = some_pair_parts d (b - 48) later bs (h ∙ found) in
       (rw (same.0, same.1) here, rw (same.1) after)
   | inr not' ↦
       let none : digit_from (b ∷ bs) ≡ None = rw not' refl in

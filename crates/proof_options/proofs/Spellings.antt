@@ -1,12 +1,12 @@
 -- The numbers that a stamp's text says are those of its parts, and what was read is spelled by parts.
 use Rattle.std.proofs.Common.{◌≡◌, ℕ, ◌<◌, List, ◌∷◌, ◌++◌, Some, refl, ap, ◌∙◌}
+use Rattle.std.proofs.lemmas.Option.{some_pair_parts}
 use Rattle.proof_options.specs.declared.reading.Day.{Day}
 use Rattle.proof_options.specs.declared.reading.Clock.{Clock}
 use Rattle.proof_options.specs.Calendar.{Date}
 use Rattle.proof_options.specs.Stamps.{two_digits, four_digits, date_text, clock_text}
 use Rattle.proof_options.specs.Internal.Reading.{Front, two_from, four_from, two_after, day_from, clock_after}
 use Rattle.proof_options.specs.Internal.Written.{date_of}
-use Rattle.proof_options.proofs.Runs.{some_pair}
 use Rattle.proof_options.proofs.Texts.{went_on, goes_on, two_reads, four_reads, after_spells, four_spells}
 
 -- ---- dates and times
@@ -26,7 +26,7 @@ day_spells text rest d h =
     let first = went_on (four_from text) _ (d, rest) h in
     let second = went_on (two_after 45 first.rest) _ (d, rest) first.on in
     let third = went_on (two_after 45 second.rest) _ (d, rest) second.on in
-    let same = some_pair (record { year = first.read; month = second.read; day = third.read }) d third.rest rest third.on in
+    let same = some_pair_parts (record { year = first.read; month = second.read; day = third.read }) d third.rest rest third.on in
     let y = four_spells text first.rest first.read first.was in
     let m = after_spells 45 first.rest second.rest second.read second.was in
     let k = after_spells 45 second.rest third.rest third.read third.was in
@@ -46,7 +46,7 @@ pub clock_spells : (mark : ℕ) (text rest : List ℕ) (c : Clock) → ◌≡◌
 clock_spells mark text rest c h =
     let first = went_on (two_after mark text) _ (c, rest) h in
     let second = went_on (two_after 58 first.rest) _ (c, rest) first.on in
-    let same = some_pair (record { hour = first.read; minute = second.read }) c second.rest rest second.on in
+    let same = some_pair_parts (record { hour = first.read; minute = second.read }) c second.rest rest second.on in
     let hh = after_spells mark text first.rest first.read first.was in
     let mm = after_spells 58 first.rest second.rest second.read second.was in
     let whole : text ≡ mark ∷ (clock_text first.read second.read ++ second.rest) =

@@ -2,9 +2,9 @@
 use Rattle.std.proofs.Common.{◌≡◌, ℕ, ◌+◌, ◌-◌, ◌*◌, ◌/◌, ◌%◌, ◌<◌, true, ◌==◌, List, [], ◌∷◌, ◌++◌, Option, Some, None, inl, inr, refl, sym, ap, ◌∙◌, arith}
 use Rattle.std.proofs.lemmas.Bool.{cases_Bool}
 use Rattle.std.proofs.lemmas.Bool.Decides.{nat_tests}
+use Rattle.std.proofs.lemmas.Option.{some_pair_parts}
 use Rattle.proof_options.specs.Stamps.{digit, two_digits, four_digits}
 use Rattle.proof_options.specs.Internal.Reading.{Front, and_then, is_digit, digit_from, two_from, four_from, two_after}
-use Rattle.proof_options.proofs.Runs.{some_pair}
 
 -- ---- one reading after another
 
@@ -39,7 +39,7 @@ digit_spells [] rest d h = absurd (cc)
 digit_spells (b ∷ bs) rest d h = elim (cases_Bool (is_digit b)) [
   | inl is ↦
       let found : ◌≡◌ {A = Front ℕ} (digit_from (b ∷ bs)) (Some (b - 48, bs)) = rw is refl in
-      let same = some_pair d (b - 48) rest bs (sym h ∙ found) in
+      let same = some_pair_parts d (b - 48) rest bs (sym h ∙ found) in
       let ends : (d < 10) × (48 + d ≡ b) = grind (arith, nat_tests, same.0) in
       (ends.0, cc (ends.1, same.1))
   | inr not' ↦
@@ -66,7 +66,7 @@ two_spells text rest k h =
     let second = went_on (digit_from first.rest) _ (k, rest) first.on in
     let tens = digit_spells text first.rest first.read first.was in
     let ones = digit_spells first.rest second.rest second.read second.was in
-    let same = some_pair (10 * first.read + second.read) k second.rest rest second.on in
+    let same = some_pair_parts (10 * first.read + second.read) k second.rest rest second.on in
     let high : k / 10 ≡ first.read = omega (arith, same.0, ones.0) in
     let low : k % 10 ≡ second.read = omega (arith, same.0, ones.0) in
     (omega (arith, same.0, tens.0, ones.0), two_joined text first.rest second.rest rest k first.read second.read tens.1 ones.1 same.1 high low)
@@ -90,7 +90,7 @@ four_spells text rest k h =
     let second = went_on (two_from first.rest) _ (k, rest) first.on in
     let high = two_spells text first.rest first.read first.was in
     let low = two_spells first.rest second.rest second.read second.was in
-    let same = some_pair (100 * first.read + second.read) k second.rest rest second.on in
+    let same = some_pair_parts (100 * first.read + second.read) k second.rest rest second.on in
     let upper : k / 100 ≡ first.read = omega (arith, same.0, low.0) in
     let lower : k % 100 ≡ second.read = omega (arith, same.0, low.0) in
     (omega (arith, same.0, high.0, low.0), four_joined text first.rest second.rest rest k first.read second.read high.1 low.1 same.1 upper lower)

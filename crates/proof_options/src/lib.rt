@@ -14,8 +14,6 @@ pub mod laws;
 mod proofs;
 mod reading;
 mod stamps;
-#[cfg(test)]
-mod tests;
 
 pub use base_types::{Memory, Text};
 pub use checking::{check, check_as, split, split_as};

@@ -7,17 +7,11 @@
 #![tactic(auto)]
 
 mod canon;
-#[cfg(test)]
-mod cases;
-#[cfg(test)]
-mod chain_tests;
 pub mod laws;
 mod naming;
 mod numbering;
 mod relabel;
 mod rounds;
-#[cfg(test)]
-mod tests;
 
 pub use canon::{Canon, canonicalise};
 pub use rdfc_ndegree::{CanonFault, Limits, Memory};

@@ -7,8 +7,6 @@
 
 mod grouping;
 mod mentions;
-#[cfg(test)]
-mod tests;
 
 pub use grouping::first_hashes;
 pub use nquads::{BlankHash, Memory};

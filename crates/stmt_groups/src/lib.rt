@@ -4,8 +4,6 @@
 #![tactic(auto)]
 
 pub mod laws;
-#[cfg(test)]
-mod tests;
 mod types;
 
 pub use base_types::{Memory, Sequence, Text};

@@ -13,8 +13,6 @@
 pub mod laws;
 mod statements;
 mod store;
-#[cfg(test)]
-mod tests;
 
 pub use base_types::Memory;
 pub use statements::{Quad, Quads};

@@ -1,0 +1,162 @@
+//! What no clause says of out of memory and time, and the calls that no crate above makes yet.
+
+ghost use Rattle.std.specs.Prelude.{◌≡◌, ◌<◌, length, IfOk, OnOk};
+ghost use Rattle.term_store.specs.Store.{text_at, begins_blank, Grows};
+
+use term_store::{Memory, Quad, Quads, TermId, Terms};
+use bumpalo::Bump;
+use std::alloc::Global;
+use std::test::Fail;
+
+/// So many different texts that a search through all of them would not end in time.
+const MANY: u32 = 400_000;
+
+/// The decimal digits of a number below 2^32, 16 of them.
+fn digits(alloc: Global, number: u32) -> Result<String, Fail> {
+    Ok(format!(in alloc; "{number:016}")?)
+}
+
+#[test]
+fn many_texts_are_found_again(rt: HostRuntime) -> Result<(), Fail> {
+    let arena = Bump::new(rt.alloc());
+    let mut terms = Terms::new(rt.alloc(), &arena)?;
+    for round in 0..2u8 {
+        for number in 0..MANY {
+            let text = digits(rt.alloc(), number)?;
+            let id = terms.intern(text.as_str())?;
+            assert_eq!(rt; id.index, number, "in round {round}");
+        }
+        assert_eq!(rt; terms.len(), MANY as usize, "after round {round}");
+    }
+    Ok(())
+}
+
+/// A text is held while a further one is kept.
+#[tactic(auto, using(term_store::proofs::StoreLemmas::store_lemmas))]
+fn text_across_intern<'a>(terms: &mut Terms<'a>, id: TermId, more: &str) -> Result<&'a str, Memory>
+    requires { id.index < length terms.old }
+    ensures text { IfOk result (λ t. t.now ≡ text_at terms.old id) }
+    ensures grows { OnOk result (Grows terms.old terms.new) }
+{
+    let text = terms.text(id);
+    terms.intern(more)?;
+    Ok(text)
+}
+
+/// A text is kept, and held while a further one is.
+#[tactic(auto, using(term_store::proofs::StoreLemmas::store_lemmas))]
+fn first_of_two<'a>(terms: &mut Terms<'a>, text: &str, more: &str) -> Result<&'a str, Memory>
+    ensures { IfOk result (λ t. t.now ≡ text.now) }
+{
+    let id = terms.intern(text)?;
+    text_across_intern(terms, id, more)
+}
+
+#[test]
+fn a_text_outlives_its_store(rt: HostRuntime) -> Result<(), Fail> {
+    let arena = Bump::new(rt.alloc());
+    let mut terms = Terms::new(rt.alloc(), &arena)?;
+    let text = first_of_two(&mut terms, "<https://ex.org/a>", "\"a\"")?;
+    assert_eq!(rt; terms.len(), 2usize);
+    drop(terms);
+    assert_eq!(rt; text, "<https://ex.org/a>");
+    Ok(())
+}
+
+/// Texts of which some begin others, the empty text among them.
+const TEXTS: [&str; 7] = ["", "_", "_:", "_:a", "a", "ab", "abc"];
+
+#[test]
+fn texts_that_begin_others_differ(rt: HostRuntime) -> Result<(), Fail> {
+    let arena = Bump::new(rt.alloc());
+    let mut terms = Terms::new(rt.alloc(), &arena)?;
+    for _ in 0..2u8 {
+        for (at, text) in TEXTS.iter().enumerate() {
+            let id = terms.intern(text)?;
+            assert_eq!(rt; id.index as usize, at, "for '{text}'");
+        }
+    }
+    assert_eq!(rt; terms.len(), TEXTS.len());
+    Ok(())
+}
+
+/// Whether a text is of a blank node, asked of a store that keeps it.
+#[tactic(auto, using(term_store::proofs::StoreLemmas::store_lemmas))]
+fn is_kept_blank(terms: &mut Terms<'_>, text: &str) -> Result<bool, Memory>
+    ensures { IfOk result (λ blank. blank ≡ begins_blank text.now) }
+{
+    let id = terms.intern(text)?;
+    Ok(terms.is_blank(id))
+}
+
+/// Texts, and whether they are of blank nodes.
+const BLANKS: [(&str, bool); 6] = [
+    ("_:a", true),
+    ("_:", true),
+    ("_", false),
+    ("", false),
+    ("<_:a>", false),
+    ("\"_:\"", false),
+];
+
+#[test]
+fn blank_nodes_begin_with_two_characters(rt: HostRuntime) -> Result<(), Fail> {
+    let arena = Bump::new(rt.alloc());
+    let mut terms = Terms::new(rt.alloc(), &arena)?;
+    for (text, want) in BLANKS {
+        assert_eq!(rt; is_kept_blank(&mut terms, text)?, want, "for '{text}'");
+    }
+    Ok(())
+}
+
+fn quad(subject: u32, predicate: u32, object: u32, graph: Option<u32>) -> Quad {
+    Quad {
+        subject: TermId { index: subject },
+        predicate: TermId { index: predicate },
+        object: TermId { index: object },
+        graph: graph.map(|index| TermId { index }),
+    }
+}
+
+/// Subject, predicate, object and graph of statements, of which the first and the fourth are one.
+const STATEMENTS: [(u32, u32, u32, Option<u32>); 6] = [
+    (1, 1, 1, None),
+    (0, 1, 2, Some(3)),
+    (0, 1, 2, None),
+    (1, 1, 1, None),
+    (0, 0, 2, None),
+    (0, 1, 2, Some(0)),
+];
+
+/// Each of them once, by subject, predicate, object and graph, where no graph comes first.
+const ORDERED: [(u32, u32, u32, Option<u32>); 5] = [
+    (0, 0, 2, None),
+    (0, 1, 2, None),
+    (0, 1, 2, Some(0)),
+    (0, 1, 2, Some(3)),
+    (1, 1, 1, None),
+];
+
+#[test]
+fn repeats_are_dropped(rt: HostRuntime) -> Result<(), Fail> {
+    let mut made = Vec::new(rt.alloc());
+    for (subject, predicate, object, graph) in STATEMENTS {
+        made.push(quad(subject, predicate, object, graph))?;
+    }
+    let quads = Quads::from_vec(made);
+    assert_eq!(rt; quads.len(), ORDERED.len());
+    assert!(rt; !quads.is_empty());
+    for (got, want) in quads.as_slice().iter().zip(&ORDERED) {
+        assert_eq!(rt; *got, quad(want.0, want.1, want.2, want.3));
+    }
+    Ok(())
+}
+
+#[test]
+fn nothing_is_a_dataset(rt: HostRuntime) {
+    let none = Quads::new(rt.alloc());
+    assert!(rt; none.is_empty());
+    let made = Quads::from_vec(Vec::new(rt.alloc()));
+    assert_eq!(rt; made.len(), 0usize);
+    assert!(rt; made.as_slice().is_empty());
+}

@@ -1,0 +1,9 @@
+//! Tests of JSON as trees, of pointers into them, and of contexts.
+#![tactic(auto)]
+
+#[cfg(test)]
+mod contexts;
+#[cfg(test)]
+mod pointers;
+#[cfg(test)]
+mod trees;

@@ -1,0 +1,270 @@
+//! Pointers of RFC 6901, section 5, and parts of documents worked by hand.
+use pointer_select::{Pointer, PointerFault, SelectFault, select};
+use json_tree::{print, read};
+use std::alloc::Global;
+use std::test::Fail;
+
+/// The example document of RFC 6901, section 5.
+const RFC: &str =
+    "{\"foo\":[\"bar\",\"baz\"],\"\":0,\"a/b\":1,\"c%d\":2,\"e^f\":3,\"g|h\":4,\"i\\\\j\":5,\"k\\\"l\":6,\" \":7,\"m~n\":8}";
+
+/// Its pointers, each with the part that it selects.
+const EXAMPLES: [(&str, &str); 12] = [
+    (
+        "",
+        "{\"\":0,\" \":7,\"a/b\":1,\"c%d\":2,\"e^f\":3,\"foo\":[\"bar\",\"baz\"],\"g|h\":4,\"i\\\\j\":5,\"k\\\"l\":6,\"m~n\":8}",
+    ),
+    ("/foo", "{\"foo\":[\"bar\",\"baz\"]}"),
+    ("/foo/0", "{\"foo\":[\"bar\"]}"),
+    ("/", "{\"\":0}"),
+    ("/a~1b", "{\"a/b\":1}"),
+    ("/c%d", "{\"c%d\":2}"),
+    ("/e^f", "{\"e^f\":3}"),
+    ("/g|h", "{\"g|h\":4}"),
+    ("/i\\j", "{\"i\\\\j\":5}"),
+    ("/k\"l", "{\"k\\\"l\":6}"),
+    ("/ ", "{\" \":7}"),
+    ("/m~0n", "{\"m~n\":8}"),
+];
+
+/// A document with a list, a member whose name has a `/`, and an id.
+const LISTS: &str =
+    "{\"@context\":\"https://ex.org/l\",\"@id\":\"urn:a\",\"a/b\":\"s\",\"list\":[\"x\",\"y\"],\"x\":[\"m\",\"n\"]}";
+
+/// Objects on the way and beside it, with kept names.
+const NAMES: &str =
+    "{\"@context\":{\"t\":1},\"a\":{\"b\":{\"@id\":\"urn:b\",\"@type\":[\"U\"],\"c\":1,\"d\":{\"id\":\"urn:d\"}},\"e\":{\"f\":3,\"id\":\"urn:e\"},\"id\":\"urn:a\",\"type\":\"T\"},\"g\":{\"@context\":\"h\"},\"type\":{\"v\":[1]}}";
+
+/// Names that look like escapes and like indexes.
+const ODD: &str = "{\"/\":1,\"0\":{\"0\":[[2,3]]},\"01\":4,\"~1\":5}";
+
+/// Documents and pointers, with the part that they select or the first that is missing.
+const PARTS: [(&str, &[&str], &str); 30] = [
+    (LISTS, &[], "none"),
+    (LISTS, &[""], LISTS),
+    (
+        LISTS,
+        &["/a~1b"],
+        "{\"@context\":\"https://ex.org/l\",\"@id\":\"urn:a\",\"a/b\":\"s\"}",
+    ),
+    (
+        LISTS,
+        &["/x/1", "/x/1"],
+        "{\"@context\":\"https://ex.org/l\",\"@id\":\"urn:a\",\"x\":[\"n\"]}",
+    ),
+    (
+        LISTS,
+        &["/list/0"],
+        "{\"@context\":\"https://ex.org/l\",\"@id\":\"urn:a\",\"list\":[\"x\"]}",
+    ),
+    (LISTS, &["/x/01"], "Missing 0"),
+    (LISTS, &["/x/~2"], "BadPointer 3"),
+    // One pointer that is a prefix of another, in either order; several in one list.
+    (
+        LISTS,
+        &["/x", "/x/0"],
+        "{\"@context\":\"https://ex.org/l\",\"@id\":\"urn:a\",\"x\":[\"m\",\"n\"]}",
+    ),
+    (
+        LISTS,
+        &["/x/0", "/x"],
+        "{\"@context\":\"https://ex.org/l\",\"@id\":\"urn:a\",\"x\":[\"m\",\"n\"]}",
+    ),
+    (
+        LISTS,
+        &["/x/1", "/list/1", "/x/0"],
+        "{\"@context\":\"https://ex.org/l\",\"@id\":\"urn:a\",\"list\":[\"y\"],\"x\":[\"m\",\"n\"]}",
+    ),
+    (LISTS, &["/x/0", ""], LISTS),
+    // What names no place, and the first of them.
+    (LISTS, &["/x/2"], "Missing 0"),
+    (LISTS, &["/x/-"], "Missing 0"),
+    (LISTS, &["/x/+1"], "Missing 0"),
+    (LISTS, &["/x/"], "Missing 0"),
+    (LISTS, &["/x/1/"], "Missing 0"),
+    (LISTS, &["/x/18446744073709551616"], "Missing 0"),
+    (LISTS, &["/x/0", "/a", "/z"], "Missing 1"),
+    (LISTS, &["/a~1b/0"], "Missing 0"),
+    // A kept name stays on the way and whole, and nowhere else.
+    (
+        NAMES,
+        &["/a/b/c"],
+        "{\"@context\":{\"t\":1},\"a\":{\"b\":{\"@id\":\"urn:b\",\"@type\":[\"U\"],\"c\":1},\"id\":\"urn:a\",\"type\":\"T\"},\"type\":{\"v\":[1]}}",
+    ),
+    (
+        NAMES,
+        &["/a/e/f"],
+        "{\"@context\":{\"t\":1},\"a\":{\"e\":{\"f\":3,\"id\":\"urn:e\"},\"id\":\"urn:a\",\"type\":\"T\"},\"type\":{\"v\":[1]}}",
+    ),
+    (
+        NAMES,
+        &["/g/@context", "/type/v/0"],
+        "{\"@context\":{\"t\":1},\"g\":{\"@context\":\"h\"},\"type\":{\"v\":[1]}}",
+    ),
+    (
+        NAMES,
+        &["/a/b"],
+        "{\"@context\":{\"t\":1},\"a\":{\"b\":{\"@id\":\"urn:b\",\"@type\":[\"U\"],\"c\":1,\"d\":{\"id\":\"urn:d\"}},\"id\":\"urn:a\",\"type\":\"T\"},\"type\":{\"v\":[1]}}",
+    ),
+    // Escapes, and numbers as names.
+    (ODD, &["/~01"], "{\"~1\":5}"),
+    (ODD, &["/~1"], "{\"/\":1}"),
+    (ODD, &["/01"], "{\"01\":4}"),
+    (ODD, &["/0/0/0/1"], "{\"0\":{\"0\":[[3]]}}"),
+    (ODD, &["/0/0/0", "/0/0/0/0"], "{\"0\":{\"0\":[[2,3]]}}"),
+    // Values that contain nothing.
+    ("7", &[""], "7"),
+    ("7", &["/"], "Missing 0"),
+];
+
+/// The pointers, or the first text that is none with its byte.
+fn pointers_of(alloc: Global, texts: &[&str]) -> Result<Result<Vec<Pointer>, u64>, Fail> {
+    let mut pointers = Vec::new(alloc);
+    for text in texts {
+        match Pointer::read(alloc, text) {
+            Ok(pointer) => pointers.push(pointer)?,
+            Err(PointerFault::BadPointer(at)) => return Ok(Err(at)),
+            Err(PointerFault::Memory) => return Ok(Err(u64::MAX)),
+        }
+    }
+    Ok(Ok(pointers))
+}
+
+/// What is answered in place of a part.
+fn fault_text(alloc: Global, fault: SelectFault) -> Result<Vec<u8>, Fail> {
+    match fault {
+        SelectFault::Missing(index) => Ok(format!(in alloc; "Missing {index}")?.into_bytes()),
+        SelectFault::Memory => Ok(String::from_str(alloc, "no memory")?.into_bytes()),
+    }
+}
+
+/// The compact text of the part that the pointers select, or what is answered in its place.
+fn selected(alloc: Global, document: &str, pointers: &[Pointer]) -> Result<Vec<u8>, Fail> {
+    let tree = read(alloc, document.as_bytes())?;
+    match select(alloc, &tree, pointers) {
+        Ok(None) => Ok(String::from_str(alloc, "none")?.into_bytes()),
+        Ok(Some(part)) => Ok(print(alloc, &part)?),
+        Err(fault) => fault_text(alloc, fault),
+    }
+}
+
+/// What these texts select of the document, or the first byte at which one is no pointer.
+fn outcome(alloc: Global, document: &str, texts: &[&str]) -> Result<Vec<u8>, Fail> {
+    match pointers_of(alloc, texts)? {
+        Ok(pointers) => selected(alloc, document, pointers.as_slice()),
+        Err(at) => Ok(format!(in alloc; "BadPointer {at}")?.into_bytes()),
+    }
+}
+
+#[test]
+fn pointers_select_their_parts(rt: HostRuntime) -> Result<(), Fail> {
+    for (pointer, expected) in EXAMPLES {
+        let shown = outcome(rt.alloc(), RFC, &[pointer])?;
+        assert_eq!(rt; shown.as_slice(), expected.as_bytes(), "at {pointer}");
+    }
+    for (document, pointers, expected) in PARTS {
+        let shown = outcome(rt.alloc(), document, pointers)?;
+        assert_eq!(rt; shown.as_slice(), expected.as_bytes(), "at {pointers:?}");
+    }
+    Ok(())
+}
+
+/// Texts with their tokens after a `|` each, or with the byte at which they leave the grammar.
+const TEXTS: [(&str, &str); 14] = [
+    ("", ""),
+    ("/", "|"),
+    ("//", "||"),
+    ("/a~1b/~01/\u{e9}", "|a/b|~1|\u{e9}"),
+    ("/~0~1~0", "|~/~"),
+    ("/ |", "| |"),
+    ("a", "0"),
+    ("~0", "0"),
+    ("a~2", "0"),
+    ("/~", "1"),
+    ("/~2~3", "1"),
+    ("/~0~/", "3"),
+    ("/\u{e9}/~", "4"),
+    ("/~~0", "1"),
+];
+
+#[test]
+fn texts_are_pointers_or_leave_the_grammar(rt: HostRuntime) -> Result<(), Fail> {
+    for (text, expected) in TEXTS {
+        let mut shown = String::new(rt.alloc());
+        match Pointer::read(rt.alloc(), text) {
+            Ok(pointer) => {
+                for token in pointer.steps() {
+                    shown.push_str("|")?;
+                    shown.push_str(token.as_str())?;
+                }
+            }
+            Err(PointerFault::BadPointer(at)) => {
+                shown.push_str(format!(in rt.alloc(); "{at}")?.as_str())?
+            }
+            Err(PointerFault::Memory) => shown.push_str("no memory")?,
+        }
+        assert_eq!(rt; shown.as_str(), expected, "at {text}");
+    }
+    Ok(())
+}
+
+/// The part of a part: what the first pointers leave, and of this what the others leave.
+fn part_of_part(alloc: Global, texts: &[&str], others: &[&str]) -> Result<String, Fail> {
+    let tree = read(alloc, b"{\"x\":[\"k\",\"l\",\"m\",\"n\"]}")?;
+    let (Ok(first), Ok(second)) = (pointers_of(alloc, texts)?, pointers_of(alloc, others)?) else {
+        return Ok(String::new(alloc));
+    };
+    match select(alloc, &tree, first.as_slice()) {
+        Ok(Some(part)) => {
+            let again = select(alloc, &part, second.as_slice());
+            Ok(format!(in alloc; "{again:?}")?)
+        }
+        other => Ok(format!(in alloc; "{other:?}")?),
+    }
+}
+
+#[test]
+fn indexes_are_of_the_present_order_and_places_are_not(rt: HostRuntime) -> Result<(), Fail> {
+    for (texts, others, expected) in [
+        (
+            ["/x/1", "/x/3"],
+            ["/x/1", "/x/1"],
+            "Ok(Some(Object(Items { items: [Member { key: Text { text: \"x\" }, value: List(Items { items: [Item { at: 3, value: Text(Text { text: \"n\" }) }] }) }] })))",
+        ),
+        (
+            ["/x/1", "/x/3"],
+            ["/x/0", "/x/1"],
+            "Ok(Some(Object(Items { items: [Member { key: Text { text: \"x\" }, value: List(Items { items: [Item { at: 1, value: Text(Text { text: \"l\" }) }, Item { at: 3, value: Text(Text { text: \"n\" }) }] }) }] })))",
+        ),
+        (["/x/1", "/x/3"], ["/x", "/x/3"], "Err(Missing(1))"),
+    ] {
+        let shown = part_of_part(rt.alloc(), &texts, &others)?;
+        assert_eq!(rt; shown.as_str(), expected);
+    }
+    Ok(())
+}
+
+#[test]
+fn faults_say_why(rt: HostRuntime) -> Result<(), Fail> {
+    for (shown, expected) in [
+        (
+            format!(in rt.alloc(); "{}", PointerFault::BadPointer(3))?,
+            "no JSON Pointer: it fails at byte 3",
+        ),
+        (
+            format!(in rt.alloc(); "{}", PointerFault::Memory)?,
+            "out of memory",
+        ),
+        (
+            format!(in rt.alloc(); "{}", SelectFault::Missing(2))?,
+            "pointer 2 names no place",
+        ),
+        (
+            format!(in rt.alloc(); "{}", SelectFault::Memory)?,
+            "out of memory",
+        ),
+    ] {
+        assert_eq!(rt; shown.as_str(), expected);
+    }
+    Ok(())
+}
