@@ -25,4 +25,3 @@ pub use laws::{
     a_final_fault_stays, a_front_is_truncated, an_input_has_one_outcome, equal_items_are_the_same,
     no_item_begins_another,
 };
-

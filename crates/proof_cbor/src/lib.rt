@@ -27,4 +27,3 @@ pub use encoding::{encode_base, encode_derived};
 pub use fault::{Part, ValueFault};
 pub use laws::a_text_has_one_outcome;
 pub use value::{BaseValue, DerivedValue, MapEntry};
-
