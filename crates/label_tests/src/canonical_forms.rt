@@ -1,9 +1,9 @@
 //! Worked datasets, by either hash, within exactly their limits of work, renamed and reordered.
 use crate::cases::{CASES, Case, Row, Want};
-use rdfc_canon::{Canon, CanonFault, Limits, Memory, canonicalise};
 use bumpalo::Bump;
 use digest_mac::Hash;
 use nquads::{Text, read};
+use rdfc_canon::{Canon, CanonFault, Limits, Memory, canonicalise};
 use std::alloc::Global;
 use term_store::{TermId, Terms};
 

@@ -1,11 +1,11 @@
 //! Chains and cycles of blank nodes, whose n-degree calls nest hundreds and thousands deep, and nodes that
 //! all point to each other.
-use crate::cases::{G, P};
 use crate::canonical_forms::{answer, is_over};
-use rdfc_canon::{CanonFault, Memory};
+use crate::cases::{G, P};
 use bumpalo::Bump;
 use digest_mac::Hash;
 use nquads::Text;
+use rdfc_canon::{CanonFault, Memory};
 use std::alloc::Global;
 use term_store::Terms;
 

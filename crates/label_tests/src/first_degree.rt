@@ -1,10 +1,10 @@
 //! Tests of first-degree hashes. What is wanted was made by python's hashlib, by the steps of RDF
 //! Dataset Canonicalization, 4.6.3.
 
-use rdfc_first::first_hashes;
 use bumpalo::Bump;
 use digest_mac::Hash;
 use nquads::{BlankHash, NqFault, read};
+use rdfc_first::first_hashes;
 use std::alloc::Global;
 use term_store::{TermId, Terms};
 

@@ -9,3 +9,7 @@ mod cases;
 mod chains;
 #[cfg(test)]
 mod first_degree;
+#[cfg(test)]
+mod n_degree;
+#[cfg(test)]
+mod node_tables;

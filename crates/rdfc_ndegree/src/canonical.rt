@@ -86,7 +86,7 @@ impl Canonical {
 
 /// Lengthens the places so that one is kept for `node`.
 #[tactic(auto, using(crate::proofs::Places::room))]
-pub(crate) fn make_room(places: &mut Vec<Option<usize>>, node: usize) -> Result<(), Memory>
+fn make_room(places: &mut Vec<Option<usize>>, node: usize) -> Result<(), Memory>
     ensures same { (n : ℕ)
         → place_at (slice_get places.new.items n) ≡ place_at (slice_get places.old.items n) }
     ensures room { OnOk result (node < length places.new.items) }

@@ -47,7 +47,7 @@ pub(crate) fn hash_on_stack(
     ensures fault { IfErr result (IsFaultOf meter.old.limits
         (CallOver (table_nodes hash table.now) canonical.now node issuer meter.old.spent)) }
 {
-    let mut shared = Temporary::new(alloc, table.len())?;
+    let mut shared = Temporary::new(alloc);
     shared.append_all(issuer.as_slice())?;
     let mut stack = Sequence::new(alloc);
     let mut next = begin_call(alloc, table, canonical, &shared, node, hash)?;

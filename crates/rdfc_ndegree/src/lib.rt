@@ -9,11 +9,7 @@
 
 mod arrangements;
 mod blank_nodes;
-#[cfg(test)]
-mod blank_nodes_tests;
 mod building;
-#[cfg(test)]
-mod building_tests;
 mod canonical;
 mod choice;
 mod chosen_path;
@@ -26,12 +22,11 @@ mod limits;
 mod moves;
 mod nested_calls;
 mod numbers;
+mod order;
 mod path;
 mod related;
 mod table;
 mod temporary;
-#[cfg(test)]
-mod tests;
 mod walk;
 
 pub use base_types::{Memory, Sequence};

@@ -1,54 +1,54 @@
 //! The temporary issuer that the calls on a stack share (RDF Dataset Canonicalization, 4.3 and 4.5).
-ghost use Rattle.std.specs.Prelude.{◌≡◌, ◌≤◌, ◌-◌, ◌++◌, ◌∷◌, [], length, take, drop, OnOk, IfOk};
+ghost use Rattle.std.specs.Prelude.{◌≡◌, ◌≤◌, ◌++◌, ◌∷◌, [], length, take, drop, OnOk};
 ghost use Rattle.rdfc_ndegree.specs.NumberIssuers.{place_in};
+ghost use Rattle.rdfc_ndegree.specs.Internal.Issuing.{place_below};
 
-use crate::canonical::make_room;
+use crate::order::Order;
 use base_types::{Memory, Sequence};
 use std::alloc::Global;
 use std::marker::Model;
 
-/// An issuer over the rows of a table: the numbers that it has named, in order, and for each number
-/// its first place in the order. What it named last can be taken back.
+/// An issuer over the rows of a table: the numbers that it has named, which are the first `count` of
+/// the order. What it named last can be taken back. It then stays in the order until another number
+/// is named in its place, since mostly the same ones are named again at once. What the issuer costs
+/// hangs on what it names, however many rows there are.
 #[derive(Debug, Drop)]
 pub(crate) struct Temporary {
-    order: Vec<usize>,
-    places: Vec<Option<usize>>,
+    order: Order,
+    count: usize,
 }
 
 impl Model for Temporary {
-    ghost use Rattle.std.specs.Prelude.{List, ℕ};
-    ghost use Rattle.rdfc_ndegree.specs.NumberIssuers.{HasPlaces};
+    ghost use Rattle.std.specs.Prelude.{◌≤◌, List, ℕ, length, take};
 
     ghost Value = { List ℕ };
 
-    ghost view = { λ t. t.order.items };
+    ghost view = { λ t. take t.count t.order };
 
-    ghost invariant = { λ t. HasPlaces t.places.items t.order.items };
+    ghost invariant = { λ t. t.count ≤ length t.order };
 }
 
 impl Temporary {
-    /// The issuer that has named nothing yet, with room for the numbers below `rows`.
-    pub fn new(alloc: Global, rows: usize) -> Result<Temporary, Memory>
-        ensures { IfOk result (λ t. t ≡ []) }
+    /// The issuer that has named nothing yet. It takes no memory.
+    pub fn new(alloc: Global) -> Temporary
+        ensures { result ≡ [] }
     {
-        Ok(Temporary {
-            order: Vec::new(alloc),
-            places: vec![in alloc; None; rows]?,
-        })
+        let order = Order::new(alloc);
+        Temporary { order, count: 0 }
     }
 
     /// Names a number, also one that is named already.
+    #[tactic(auto, using(crate::proofs::Places::first_numbers))]
     pub fn append(&mut self, node: usize) -> Result<(), Memory>
         ensures { OnOk result (self.new ≡ self.old ++ node ∷ []) }
     {
-        if self.number(node).is_some() {
-            self.order.push(node)?;
+        if let Some(next) = self.order.place_after(self.count, node) {
+            self.count = next;
             return Ok(());
         }
-        make_room(&mut self.places, node)?;
-        let place = self.order.len();
+        self.order.cut(self.count);
         self.order.push(node)?;
-        self.places[node] = Some(place);
+        self.count = self.order.len();
         Ok(())
     }
 
@@ -66,46 +66,28 @@ impl Temporary {
     pub fn cut_back(&mut self, count: usize)
         ensures { self.new ≡ take count self.old }
     {
-        while self.order.len() > count {
-            self.take_back();
-        }
-    }
-
-    /// Takes back the number that was named last.
-    fn take_back(&mut self)
-        ensures { self.new ≡ take (length self.old - 1) self.old }
-    {
-        let count = self.order.len();
-        if count == 0 {
-            return;
-        }
-        let node = self.order[count - 1];
-        let place = self.number(node);
-        self.order.truncate(count - 1);
-        if place == Some(count - 1) {
-            self.places[node] = None;
-        }
+        self.count = self.count.min(count);
     }
 
     /// The place of a number in the order, from 0, or `None` where it is not named.
     pub fn number(&self, node: usize) -> Option<usize>
         ensures { result ≡ place_in self.now node }
     {
-        *self.places.get(node)?
+        place_below(self.order.place_of(node), self.count)
     }
 
     /// How many numbers are named.
     pub fn len(&self) -> usize
         ensures { result ≡ length self.now }
     {
-        self.order.len()
+        self.as_slice().len()
     }
 
     /// What was named after the first `count` numbers.
     pub fn after(&self, count: usize) -> &[usize]
         ensures { result.now ≡ drop count self.now }
     {
-        let order = self.order.as_slice();
+        let order = self.as_slice();
         if count >= order.len() {
             return &[];
         }
@@ -116,6 +98,25 @@ impl Temporary {
     pub fn into_order(self) -> Sequence<usize>
         ensures { result ≡ self }
     {
-        Sequence::from_vec(self.order)
+        let Temporary { order, count } = self;
+        let mut numbers = order.into_vec();
+        numbers.truncate(count);
+        Sequence::from_vec(numbers)
+    }
+
+    fn as_slice(&self) -> &[usize]
+        ensures { result.now ≡ self.now }
+    {
+        &self.order.as_slice()[..self.count]
+    }
+}
+
+/// A place, if it is one of the first `count`.
+fn place_below(place: Option<usize>, count: usize) -> Option<usize>
+    ensures { result ≡ place_below place count }
+{
+    match place {
+        Some(place) => { if place < count { Some(place) } else { None } }
+        None => None,
     }
 }

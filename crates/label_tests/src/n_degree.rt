@@ -1,12 +1,73 @@
-//! Calls for blank nodes by their numbers in a store.
-use crate::tests::{
-    ALONE, First, INNER, MIDDLE, OUTER, PAIR, TWIN, TWINS, hashes, meter, statements, text_of,
-};
-use crate::{CanonFault, Issuer, Memory, Meter, Path, Sequence, n_degree};
+//! Calls for blank nodes by their numbers in a store, and what a call refuses.
+ghost use Rattle.std.specs.Prelude.{All, IfOk};
+ghost use Rattle.nquads.specs.Stored.{IsKnown};
+
 use bumpalo::Bump;
-use digest_mac::Hash;
+use digest_mac::{Hash, digest_hex};
+use nquads::{BlankHash, read};
+use rdfc_ndegree::{CanonFault, Issuer, Limits, Memory, Meter, Path, Sequence, n_degree};
 use std::alloc::Global;
-use term_store::{TermId, Terms};
+use std::test::Fail;
+use term_store::{Quads, TermId, Terms};
+
+/// A blank node as a store keeps it, and the lines of which its first-degree hash is the digest.
+pub type First = (&'static str, &'static str);
+
+const ALONE: &str = "_:a <http://example.com/#p> <http://example.com/#o> .\n";
+
+const PAIR: &str = "_:a <http://example.com/#p> _:z .\n_:z <http://example.com/#p> _:a .\n";
+
+const TWIN: &str = "_:z <http://example.com/#p> _:a .\n";
+
+const TWINS: &str = "_:a <http://example.com/#p> _:z .\n_:a <http://example.com/#p> _:z .\n";
+
+const INNER: &str = "_:z <http://example.com/#q> _:a .\n";
+
+const MIDDLE: &str =
+    "_:a <http://example.com/#q> _:z .\n_:a <http://example.com/#q> _:z .\n_:z <http://example.com/#p> _:a .\n";
+
+const OUTER: &str = "_:a <http://example.com/#p> _:z .\n";
+
+/// The statements of a text of N-Quads.
+pub fn statements(alloc: Global, terms: &mut Terms<'_>, text: &str) -> Result<Quads, CanonFault>
+    ensures { IfOk result (All (IsKnown terms.new)) }
+{
+    match read(alloc, terms, text.as_bytes()) {
+        Ok(quads) => Ok(quads),
+        Err(_) => Err(CanonFault::Memory),
+    }
+}
+
+pub fn hashes(
+    alloc: Global,
+    terms: &mut Terms<'_>,
+    firsts: &[First],
+    hash: Hash,
+) -> Result<Vec<BlankHash>, Memory> {
+    let mut hashes = Vec::new(alloc);
+    for (name, lines) in firsts {
+        hashes.push(BlankHash {
+            blank: terms.intern(name)?,
+            hash: digest_hex(hash, lines.as_bytes()),
+        })?;
+    }
+    Ok(hashes)
+}
+
+/// The text of a number, and nothing for one that is not of the store.
+fn text_of<'a>(terms: &Terms<'a>, id: TermId) -> &'a str {
+    if (id.index as usize) < terms.len() {
+        return terms.text(id);
+    }
+    ""
+}
+
+fn meter(spent: u64, work: u64) -> Meter {
+    Meter {
+        spent,
+        limits: Limits { work },
+    }
+}
 
 /// A call with what it gives by either hash, what was spent before, and how many arrangements it
 /// takes, which is the limit too.
@@ -44,9 +105,20 @@ const FIVE_ALIKE: [First; 5] = [
     ("_:ne4", PAIR),
 ];
 
+/// Node 0 is beside node 1 twice as subject, node 2 three times as object and node 3 twice as graph.
+const POSITIONS: &str =
+    "_:one <http://example.com/p> _:zero .\n_:zero <http://example.com/p> _:two .\n_:zero <http://example.com/p> _:two _:three .\n_:zero <http://example.com/p> _:two <http://example.com/g> .\n_:zero <http://example.com/p> \"x\" _:three .\n_:one <http://example.com/p> _:zero <http://example.com/g> .\n";
+
+const POSITION_FIRSTS: [First; 4] = [
+    ("_:nzero", "zero"),
+    ("_:none", "one"),
+    ("_:ntwo", "two"),
+    ("_:nthree", "three"),
+];
+
 // The hashes and the counts of arrangements were made by other programs, which follow RDF Dataset
 // Canonicalization, 4.8.3, step by step.
-const CASES: [Case; 9] = [
+const CASES: [Case; 10] = [
     Case {
         name: "nodes that point to each other",
         statements: "_:e0 <http://example.com/#p> _:e1 .\n_:e1 <http://example.com/#p> _:e0 .\n",
@@ -173,6 +245,20 @@ const CASES: [Case; 9] = [
         spent: 0,
         work: 8,
     },
+    Case {
+        name: "each position, in graphs too, beside a canonical node and a named one",
+        statements: POSITIONS,
+        firsts: &POSITION_FIRSTS,
+        canonical: &["_:none"],
+        node: "_:nzero",
+        begun: &["_:nzero", "_:ntwo"],
+        sha256: "b1f898f982cc5f21beee8dadf6e349cd9a7fa9ea22b3b7bd2e5328bc8a620d4a",
+        sha384: "1f599fcd193285d7df2d20df51b03a1bb7037656f1858778be1ea846a7f85cddd28c65d5a4181d7c6ee3c2548f7db0b7",
+        issuer: &["_:nzero", "_:ntwo", "_:nthree"],
+        tie: false,
+        spent: 0,
+        work: 5,
+    },
 ];
 
 fn issuer(alloc: Global, terms: &mut Terms<'_>, names: &[&str]) -> Result<Issuer, Memory> {
@@ -259,5 +345,18 @@ fn calls_within_their_limit(rt: HostRuntime) -> Result<(), CanonFault> {
             assert!(rt; given && over, "{}", case.name);
         }
     }
+    Ok(())
+}
+
+#[test]
+fn faults_say_what_they_are(rt: HostRuntime) -> Result<(), Fail> {
+    let work = CanonFault::TooMuchWork(5);
+    let line = "more than 5 arrangements would be evaluated";
+    assert_eq!(rt; format!(in rt.alloc(); "{work}")?.as_str(), line);
+    let memory = CanonFault::Memory;
+    assert_eq!(rt;
+        format!(in rt.alloc(); "{memory}")?.as_str(),
+        "out of memory"
+    );
     Ok(())
 }

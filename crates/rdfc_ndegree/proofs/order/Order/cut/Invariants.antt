@@ -1,5 +1,5 @@
 use Rattle.std.proofs.Common.{◌≡◌, length, take}
-use Rattle.rdfc_ndegree.proofs.temporary.Temporary.cut_back.Given as goal
+use Rattle.rdfc_ndegree.proofs.order.Order.cut.Given as goal
 
 abbrev pub invariant-loop-self : goal.invariant-loop-self
 invariant-loop-self l = take l.count l.self ≡ take l.count l.fn.self

@@ -1,8 +1,8 @@
 //! A table with each shape of statement.
-use crate::tests::{First, hashes, statements};
-use crate::{CanonFault, NodeTable, Position, node_table};
+use crate::n_degree::{First, hashes, statements};
 use bumpalo::Bump;
 use digest_mac::{Hash, digest_hex};
+use rdfc_ndegree::{CanonFault, NodeTable, Position, node_table};
 use term_store::Terms;
 
 const P: &str = "<http://example.org/p>";
