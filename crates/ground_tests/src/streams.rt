@@ -1,12 +1,12 @@
 //! Reading and writing whole, at pieces, limits and failing calls.
-use vc_io::{
-    Failed, MemorySink, MemorySource, ReadAllFault, ReaderSource, Sink, Source, WriteFailed,
-    WriterSink, read_all, write_all,
-};
 use std::alloc::Global;
 use std::io;
 use std::io::{Read, Write};
 use std::test::Fail;
+use vc_io::{
+    Failed, MemorySink, MemorySource, ReadAllFault, ReaderSource, Sink, Source, WriteFailed,
+    WriterSink, read_all, write_all,
+};
 
 /// 53 bytes.
 const LINE: &[u8] = b"<https://ex.org/a> <https://schema.org/name> \"Ann\" .\n";

@@ -1,7 +1,7 @@
 //! Stamps beside the instants that Python's `datetime` gives them, and options whose fields leave
 //! their shape one by one.
-use proof_options::{OptionFault, Suite, check, check_as, read_stamp, split, split_as};
 use json_tree::{print, read};
+use proof_options::{OptionFault, Suite, check, check_as, read_stamp, split, split_as};
 use std::alloc::Global;
 use std::test::Fail;
 

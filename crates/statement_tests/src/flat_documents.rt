@@ -1,6 +1,6 @@
 //! Requests and the statements that their documents mean, by hand from JSON-LD 1.1.
-use ld_rdf::{FlatFault, Text, flat, flat_document, flat_lines, flat_options};
 use json_tree::{TreeFault, read};
+use ld_rdf::{FlatFault, Text, flat, flat_document, flat_lines, flat_options};
 use nquads::{TextQuads, join};
 use std::alloc::Global;
 use std::test::Fail;

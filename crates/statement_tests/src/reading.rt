@@ -3,8 +3,8 @@
 ghost use Rattle.std.specs.Prelude.{All};
 ghost use Rattle.nquads.specs.Stored.{IsKnown};
 
-use nquads::{Memory, NqFault, Text, read};
 use bumpalo::Bump;
+use nquads::{Memory, NqFault, Text, read};
 use std::alloc::Global;
 use std::test::Fail;
 use term_store::{Quad, Terms};

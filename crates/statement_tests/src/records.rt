@@ -1,8 +1,8 @@
 //! What a cause says, in words.
 
-use stmt_groups::{Cause, Text};
 use std::alloc::Global;
 use std::test::Fail;
+use stmt_groups::{Cause, Text};
 
 /// Whether the cause is written as this line.
 fn says(alloc: Global, cause: &Cause, line: &str) -> Result<bool, Fail> {

@@ -3,10 +3,10 @@
 ghost use Rattle.std.specs.Prelude.{◌≡◌, ◌<◌, length, IfOk, OnOk};
 ghost use Rattle.term_store.specs.Store.{text_at, begins_blank, Grows};
 
-use term_store::{Memory, Quad, Quads, TermId, Terms};
 use bumpalo::Bump;
 use std::alloc::Global;
 use std::test::Fail;
+use term_store::{Memory, Quad, Quads, TermId, Terms};
 
 /// So many different texts that a search through all of them would not end in time.
 const MANY: u32 = 400_000;

@@ -4,8 +4,8 @@
 ghost use Rattle.std.specs.Prelude.{◌≡◌, ◌<◌, All, IfSome, IsTrue, length};
 ghost use Rattle.nquads.specs.Stored.{AreLabelsKnown, HasLabel, IsKnown, IsLabelled};
 
-use nquads::{Labels, Memory, Text, write, write_line, write_lines};
 use bumpalo::Bump;
+use nquads::{Labels, Memory, Text, write, write_line, write_lines};
 use std::alloc::Global;
 use term_store::{Quad, Quads, TermId, Terms};
 

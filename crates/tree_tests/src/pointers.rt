@@ -1,6 +1,6 @@
 //! Pointers of RFC 6901, section 5, and parts of documents worked by hand.
-use pointer_select::{Pointer, PointerFault, SelectFault, select};
 use json_tree::{print, read};
+use pointer_select::{Pointer, PointerFault, SelectFault, select};
 use std::alloc::Global;
 use std::test::Fail;
 

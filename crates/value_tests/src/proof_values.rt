@@ -1,7 +1,7 @@
 //! Texts that are refused, the lines of faults, and values that are written back.
 
-use proof_cbor::*;
 use base64::engine::general_purpose::URL_SAFE_NO_PAD;
+use proof_cbor::*;
 use std::alloc::Global;
 use std::test::*;
 
