@@ -1,7 +1,11 @@
 //! What the calls give: signatures, keys and secrets by their numbers, by HMAC and by ChaCha20; who is
 //! refused, and which calls fail.
 
-use key_device::*;
+use key_device::{
+    BrokenDevice, DeviceError, FailingDevice, HmacDevice, KeyDevice, KeyEntry, KeyName, KeyTable,
+    LedgerDevice, Sequence, Signature, Text, sign_among_others, sign_and_check, sign_for_log,
+    sign_with_fresh_key, sign_with_new_ledger,
+};
 use std::test::Fail;
 
 /// A key of zero bytes but for the second and the last.

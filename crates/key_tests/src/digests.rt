@@ -1,7 +1,7 @@
 //! The examples of FIPS 180-4 and the empty message, the keyed digests of RFC 4231, and keys about as
 //! long as a block, as another implementation gives them.
 
-use digest_mac::*;
+use digest_mac::{Hash, digest_hex, digest_of, hmac, label_text, sha256, sha256_hex};
 use std::test::Fail;
 
 /// Messages with the digits of their digests, as other implementations print them.

@@ -1,7 +1,7 @@
 //! Refusals and their texts, limits, and the examples of RFC 8949, appendix A.
 
-use cbor_core::*;
-use std::test::*;
+use cbor_core::{CborFault, Item, decode, encode, head};
+use std::test::Fail;
 
 /// The rows of RFC 8949, appendix A, that lie outside of the grammar: negative numbers, floats, simple
 /// values, tags, keys that are texts, and indefinite lengths. Each is refused at the first head of
@@ -332,7 +332,7 @@ fn map_of(rt: &HostRuntime, pairs: u16) -> Result<Vec<u8>, Fail> {
     let mut bytes = vec![in rt.alloc(); 0xb9]?;
     bytes.extend_from_slice(&pairs.to_be_bytes())?;
     for key in 0..pairs {
-        let head = heads::head(0, key as u64);
+        let head = head(0, key as u64);
         for byte in head.bytes.iter().take(head.len as usize) {
             bytes.push(*byte)?;
         }
@@ -395,7 +395,7 @@ fn heads(rt: HostRuntime) {
     ];
     for (major, value, want) in cases {
         if major < 8 {
-            let head = heads::head(major, value);
+            let head = head(major, value);
             assert!(rt; head.len <= 9);
             assert!(rt; &head.bytes[..head.len as usize] == want, "at {value}");
         }
@@ -427,8 +427,8 @@ fn heads_rise(rt: HostRuntime) {
         u64::MAX,
     ];
     for (low, high) in numbers.iter().zip(numbers.iter().skip(1)) {
-        let below = heads::head(0, *low);
-        let above = heads::head(0, *high);
+        let below = head(0, *low);
+        let above = head(0, *high);
         assert!(rt; below.bytes.as_slice() < above.bytes.as_slice(), "at {low}");
     }
 }
