@@ -2,8 +2,8 @@
 
 use base64::engine::general_purpose::URL_SAFE_NO_PAD;
 use proof_cbor::{
-    BaseValue, CborFault, DerivedValue, MapEntry, Memory, Part, Text, ValueFault, decode_base,
-    decode_derived, draft_base, encode_base, encode_derived,
+    CborFault, Memory, Part, ValueFault, decode_base, decode_derived, draft_base, encode_base,
+    encode_derived,
 };
 use std::alloc::Global;
 use std::test::Fail;
@@ -16,43 +16,8 @@ const BASE: &str =
 const DERIVED: &str =
     "u2V0BhVhAAAAAAAAAAAAAAAAAAAAAAAAAAAAAAAAAAAAAAAAAAAAAAAAAAAAAAAAAAAAAAAAAAAAAAAAAAAAAAAAAAAAAAVgjAAEAAAAAAAAAAAAAAAAAAAAAAAAAAAAAAAAAAAAAAAAAAAGAoIEA";
 
-/// Why the text is refused as a base value.
-fn base_fault(alloc: Global, text: &str) -> Option<ValueFault> {
-    decode_base(alloc, text).err()
-}
-
-/// Why the text is refused as a derived value.
-fn derived_fault(alloc: Global, text: &str) -> Option<ValueFault> {
-    decode_derived(alloc, text).err()
-}
-
-/// Texts that are no base value, each with its fault, and one that is.
-const CUT: [(&str, Option<ValueFault>); 11] = [
-    (BASE, None),
-    (DERIVED, Some(ValueFault::Header)),
-    ("", Some(ValueFault::NotMultibase)),
-    ("u2", Some(ValueFault::NotMultibase)),
-    ("u2V", Some(ValueFault::NotMultibase)),
-    ("z2V0A", Some(ValueFault::NotMultibase)),
-    ("u2V0A=", Some(ValueFault::NotMultibase)),
-    ("u", Some(ValueFault::Header)),
-    ("u2V0", Some(ValueFault::Header)),
-    ("u2V0A", Some(ValueFault::Cbor(CborFault::Truncated(0)))),
-    ("u2V0AhVhA", Some(ValueFault::Cbor(CborFault::Truncated(3)))),
-];
-
-#[test]
-fn texts_that_are_cut(rt: HostRuntime) {
-    for (text, want) in CUT {
-        assert!(rt; base_fault(rt.alloc(), text) == want, "at {text}");
-    }
-    for (text, want) in [(DERIVED, None), (BASE, Some(ValueFault::Header))] {
-        assert!(rt; derived_fault(rt.alloc(), text) == want, "at {text}");
-    }
-}
-
 /// One part of a value, as CBOR.
-#[derive(Clone, Copy)]
+#[derive(Drop)]
 enum Spelled {
     /// A byte string of so many zeros.
     Zeros(u8),
@@ -62,311 +27,332 @@ enum Spelled {
     Digest(u8),
 }
 
-use Spelled::{Digest, Raw, Zeros};
-
-/// Adds a byte string of so many zeros.
-fn push_zeros(bytes: &mut Vec<u8>, count: u8) -> Result<(), Memory> {
-    bytes.extend_from_slice(&[0x58, count])?;
-    for _ in 0..count {
-        bytes.push(0)?;
-    }
-    Ok(())
-}
-
-/// Adds a part.
-fn push_part(bytes: &mut Vec<u8>, part: Spelled) -> Result<(), Memory> {
-    match part {
-        Zeros(count) => push_zeros(bytes, count),
-        Raw(raw) => {
-            bytes.extend_from_slice(raw)?;
-            Ok(())
-        }
-        Digest(count) => {
-            bytes.extend_from_slice(&[0xa1, 0x00])?;
-            push_zeros(bytes, count)
-        }
-    }
-}
-
 /// The text of a value with these parts.
-fn text_of(alloc: Global, head: [u8; 4], parts: [Spelled; 5]) -> Result<String, Memory> {
+fn text_of(alloc: Global, head: [u8; 4], parts: &[Spelled]) -> Result<String, Memory> {
     let mut bytes = Vec::new(alloc);
-    bytes.extend_from_slice(&head)?;
+    bytes.extend_from_slice(head.as_slice())?;
     for part in parts {
-        push_part(&mut bytes, part)?;
+        match part {
+            Spelled::Zeros(count) => {
+                bytes.extend_from_slice([0x58, *count].as_slice())?;
+                for _ in 0..*count {
+                    bytes.push(0)?;
+                }
+            }
+            Spelled::Raw(raw) => bytes.extend_from_slice(raw)?,
+            Spelled::Digest(count) => {
+                bytes.extend_from_slice([0xa1, 0x00, 0x58, *count].as_slice())?;
+                for _ in 0..*count {
+                    bytes.push(0)?;
+                }
+            }
+        }
     }
     let mut text = String::from_str(alloc, "u")?;
     URL_SAFE_NO_PAD.encode_string(&bytes, &mut text)?;
     Ok(text)
 }
 
-/// The parts of base values, each with its fault.
-const BASE_PARTS: [([Spelled; 5], Option<ValueFault>); 13] = [
-    (
-        [Zeros(64), Zeros(35), Zeros(32), Raw(&[0x80]), Raw(&[0x80])],
-        None,
-    ),
-    (
-        [
-            Raw(&[0x00]),
-            Zeros(35),
-            Zeros(32),
-            Raw(&[0x80]),
-            Raw(&[0x80]),
-        ],
-        Some(ValueFault::Shape(Part::BaseSignature)),
-    ),
-    (
-        [
-            Zeros(63),
-            Raw(&[0x00]),
-            Zeros(32),
-            Raw(&[0x80]),
-            Raw(&[0x80]),
-        ],
-        Some(ValueFault::Length(Part::BaseSignature)),
-    ),
-    (
-        [
-            Zeros(64),
-            Raw(&[0x60]),
-            Zeros(31),
-            Raw(&[0x80]),
-            Raw(&[0x80]),
-        ],
-        Some(ValueFault::Shape(Part::PublicKey)),
-    ),
-    (
-        [Zeros(64), Zeros(36), Zeros(31), Raw(&[0x80]), Raw(&[0x80])],
-        Some(ValueFault::Length(Part::PublicKey)),
-    ),
-    (
-        [
-            Zeros(64),
-            Zeros(35),
-            Raw(&[0x80]),
-            Raw(&[0x00]),
-            Raw(&[0x80]),
-        ],
-        Some(ValueFault::Shape(Part::HmacKey)),
-    ),
-    (
-        [Zeros(64), Zeros(35), Zeros(35), Raw(&[0x00]), Raw(&[0x80])],
-        Some(ValueFault::Length(Part::HmacKey)),
-    ),
-    (
-        [Zeros(64), Zeros(35), Zeros(32), Raw(&[0x40]), Raw(&[0x00])],
-        Some(ValueFault::Shape(Part::Signatures)),
-    ),
-    (
-        [
-            Zeros(64),
-            Zeros(35),
-            Zeros(32),
-            Raw(&[0x82, 0x40, 0x60]),
-            Raw(&[0x00]),
-        ],
-        Some(ValueFault::Shape(Part::Signatures)),
-    ),
-    (
-        [
-            Zeros(64),
-            Zeros(35),
-            Zeros(32),
-            Raw(&[0x82, 0x40, 0x41, 0x00]),
-            Raw(&[0x00]),
-        ],
-        Some(ValueFault::Length(Part::Signatures)),
-    ),
-    (
-        [Zeros(64), Zeros(35), Zeros(32), Raw(&[0x80]), Raw(&[0x60])],
-        Some(ValueFault::Shape(Part::Pointers)),
-    ),
-    (
-        [
-            Zeros(64),
-            Zeros(35),
-            Zeros(32),
-            Raw(&[0x80]),
-            Raw(&[0x81, 0x40]),
-        ],
-        Some(ValueFault::Shape(Part::Pointers)),
-    ),
-    (
-        [
-            Zeros(64),
-            Zeros(35),
-            Zeros(32),
-            Raw(&[0x80]),
-            Raw(&[0x82, 0x61, 0x61, 0x60]),
-        ],
-        None,
-    ),
-];
-
 #[test]
-fn base_parts_of_another_kind_or_length(rt: HostRuntime) -> Result<(), Fail> {
-    for (parts, want) in BASE_PARTS {
-        let text = text_of(rt.alloc(), [0xd9, 0x5d, 0x00, 0x85], parts)?;
-        assert!(rt; base_fault(rt.alloc(), &text) == want, "at {text}");
+fn texts_that_are_cut(rt: HostRuntime) {
+    assert!(rt; decode_base(rt.alloc(), BASE).is_ok());
+    assert!(rt; decode_derived(rt.alloc(), DERIVED).is_ok());
+    assert!(rt; decode_base(rt.alloc(), DERIVED).err() == Some(ValueFault::Header));
+    assert!(rt; decode_derived(rt.alloc(), BASE).err() == Some(ValueFault::Header));
+    let cases: [(&str, ValueFault); 9] = [
+        ("", ValueFault::NotMultibase),
+        ("u2", ValueFault::NotMultibase),
+        ("u2V", ValueFault::NotMultibase),
+        ("z2V0A", ValueFault::NotMultibase),
+        ("u2V0A=", ValueFault::NotMultibase),
+        ("u", ValueFault::Header),
+        ("u2V0", ValueFault::Header),
+        ("u2V0A", ValueFault::Cbor(CborFault::Truncated(0))),
+        ("u2V0AhVhA", ValueFault::Cbor(CborFault::Truncated(3))),
+    ];
+    for (text, want) in cases {
+        assert!(rt;
+            decode_base(rt.alloc(), text).err() == Some(want),
+            "at {text}"
+        );
     }
-    let four = [Zeros(64), Zeros(35), Zeros(32), Raw(&[0x80]), Raw(&[])];
-    let text = text_of(rt.alloc(), [0xd9, 0x5d, 0x00, 0x84], four)?;
-    assert!(rt; base_fault(rt.alloc(), &text) == Some(ValueFault::Shape(Part::Array)));
-    Ok(())
 }
 
-/// The parts of derived values, each with its fault. A digest has 32 bytes, no fewer and no more.
-const DERIVED_PARTS: [([Spelled; 5], Option<ValueFault>); 16] = [
-    (
-        [
-            Zeros(64),
-            Zeros(35),
-            Raw(&[0x80]),
-            Raw(&[0xa0]),
-            Raw(&[0x82, 0x01, 0x18, 0x18]),
-        ],
-        None,
-    ),
-    (
-        [
-            Raw(&[0x60]),
-            Zeros(35),
-            Raw(&[0x80]),
-            Raw(&[0xa0]),
-            Raw(&[0x80]),
-        ],
-        Some(ValueFault::Shape(Part::BaseSignature)),
-    ),
-    (
-        [
-            Zeros(65),
-            Zeros(35),
-            Raw(&[0x80]),
-            Raw(&[0xa0]),
-            Raw(&[0x80]),
-        ],
-        Some(ValueFault::Length(Part::BaseSignature)),
-    ),
-    (
-        [
-            Zeros(64),
-            Raw(&[0xa0]),
-            Raw(&[0x80]),
-            Raw(&[0xa0]),
-            Raw(&[0x80]),
-        ],
-        Some(ValueFault::Shape(Part::PublicKey)),
-    ),
-    (
-        [
-            Zeros(64),
-            Zeros(64),
-            Raw(&[0x00]),
-            Raw(&[0xa0]),
-            Raw(&[0x80]),
-        ],
-        Some(ValueFault::Length(Part::PublicKey)),
-    ),
-    (
-        [
-            Zeros(64),
-            Zeros(35),
-            Raw(&[0xa0]),
-            Raw(&[0x80]),
-            Raw(&[0x80]),
-        ],
-        Some(ValueFault::Shape(Part::Signatures)),
-    ),
-    (
-        [
-            Zeros(64),
-            Zeros(35),
-            Raw(&[0x81, 0x40]),
-            Raw(&[0x80]),
-            Raw(&[0x80]),
-        ],
-        Some(ValueFault::Length(Part::Signatures)),
-    ),
-    (
-        [
-            Zeros(64),
-            Zeros(35),
-            Raw(&[0x80]),
-            Raw(&[0x80]),
-            Raw(&[0xa0]),
-        ],
-        Some(ValueFault::Shape(Part::LabelMap)),
-    ),
-    (
-        [
-            Zeros(64),
-            Zeros(35),
-            Raw(&[0x80]),
-            Raw(&[0xa2, 0x00, 0x40, 0x01, 0x00]),
-            Raw(&[0x00]),
-        ],
-        Some(ValueFault::Shape(Part::LabelMap)),
-    ),
-    (
-        [
-            Zeros(64),
-            Zeros(35),
-            Raw(&[0x80]),
-            Raw(&[0xa1, 0x00, 0x40]),
-            Raw(&[0x00]),
-        ],
-        Some(ValueFault::Length(Part::LabelMap)),
-    ),
-    (
-        [
-            Zeros(64),
-            Zeros(35),
-            Raw(&[0x80]),
-            Raw(&[0xa0]),
-            Raw(&[0x82, 0x01, 0x60]),
-        ],
-        Some(ValueFault::Shape(Part::Indexes)),
-    ),
-    (
-        [
-            Zeros(64),
-            Zeros(35),
-            Raw(&[0x80]),
-            Raw(&[0xa0]),
-            Raw(&[0x82, 0x01, 0x01]),
-        ],
-        Some(ValueFault::Indexes),
-    ),
-    (
-        [
-            Zeros(64),
-            Zeros(35),
-            Raw(&[0x80]),
-            Raw(&[0xa0]),
-            Raw(&[0x83, 0x00, 0x02, 0x01]),
-        ],
-        Some(ValueFault::Indexes),
-    ),
-    (
-        [Zeros(64), Zeros(35), Raw(&[0x80]), Digest(31), Raw(&[0x80])],
-        Some(ValueFault::Length(Part::LabelMap)),
-    ),
-    (
-        [Zeros(64), Zeros(35), Raw(&[0x80]), Digest(32), Raw(&[0x80])],
-        None,
-    ),
-    (
-        [Zeros(64), Zeros(35), Raw(&[0x80]), Digest(33), Raw(&[0x80])],
-        Some(ValueFault::Length(Part::LabelMap)),
-    ),
-];
-
 #[test]
-fn derived_parts_of_another_kind_or_length(rt: HostRuntime) -> Result<(), Fail> {
-    for (parts, want) in DERIVED_PARTS {
-        let text = text_of(rt.alloc(), [0xd9, 0x5d, 0x01, 0x85], parts)?;
-        assert!(rt; derived_fault(rt.alloc(), &text) == want, "at {text}");
+fn parts_of_another_kind_or_length(rt: HostRuntime) {
+    use Spelled::{Raw, Zeros};
+    let base: [([Spelled; 5], Option<ValueFault>); 13] = [
+        (
+            [Zeros(64), Zeros(35), Zeros(32), Raw(&[0x80]), Raw(&[0x80])],
+            None,
+        ),
+        (
+            [
+                Raw(&[0x00]),
+                Zeros(35),
+                Zeros(32),
+                Raw(&[0x80]),
+                Raw(&[0x80]),
+            ],
+            Some(ValueFault::Shape(Part::BaseSignature)),
+        ),
+        (
+            [
+                Zeros(63),
+                Raw(&[0x00]),
+                Zeros(32),
+                Raw(&[0x80]),
+                Raw(&[0x80]),
+            ],
+            Some(ValueFault::Length(Part::BaseSignature)),
+        ),
+        (
+            [
+                Zeros(64),
+                Raw(&[0x60]),
+                Zeros(31),
+                Raw(&[0x80]),
+                Raw(&[0x80]),
+            ],
+            Some(ValueFault::Shape(Part::PublicKey)),
+        ),
+        (
+            [Zeros(64), Zeros(36), Zeros(31), Raw(&[0x80]), Raw(&[0x80])],
+            Some(ValueFault::Length(Part::PublicKey)),
+        ),
+        (
+            [
+                Zeros(64),
+                Zeros(35),
+                Raw(&[0x80]),
+                Raw(&[0x00]),
+                Raw(&[0x80]),
+            ],
+            Some(ValueFault::Shape(Part::HmacKey)),
+        ),
+        (
+            [Zeros(64), Zeros(35), Zeros(35), Raw(&[0x00]), Raw(&[0x80])],
+            Some(ValueFault::Length(Part::HmacKey)),
+        ),
+        (
+            [Zeros(64), Zeros(35), Zeros(32), Raw(&[0x40]), Raw(&[0x00])],
+            Some(ValueFault::Shape(Part::Signatures)),
+        ),
+        (
+            [
+                Zeros(64),
+                Zeros(35),
+                Zeros(32),
+                Raw(&[0x82, 0x40, 0x60]),
+                Raw(&[0x00]),
+            ],
+            Some(ValueFault::Shape(Part::Signatures)),
+        ),
+        (
+            [
+                Zeros(64),
+                Zeros(35),
+                Zeros(32),
+                Raw(&[0x82, 0x40, 0x41, 0x00]),
+                Raw(&[0x00]),
+            ],
+            Some(ValueFault::Length(Part::Signatures)),
+        ),
+        (
+            [Zeros(64), Zeros(35), Zeros(32), Raw(&[0x80]), Raw(&[0x60])],
+            Some(ValueFault::Shape(Part::Pointers)),
+        ),
+        (
+            [
+                Zeros(64),
+                Zeros(35),
+                Zeros(32),
+                Raw(&[0x80]),
+                Raw(&[0x81, 0x40]),
+            ],
+            Some(ValueFault::Shape(Part::Pointers)),
+        ),
+        (
+            [
+                Zeros(64),
+                Zeros(35),
+                Zeros(32),
+                Raw(&[0x80]),
+                Raw(&[0x82, 0x61, 0x61, 0x60]),
+            ],
+            None,
+        ),
+    ];
+    for (parts, want) in base {
+        let text = text_of(rt.alloc(), [0xd9, 0x5d, 0x00, 0x85], parts.as_slice()).expect(
+            &rt, "memory",
+        );
+        assert!(rt; decode_base(rt.alloc(), &text).err() == want, "at {text}");
+    }
+    let derived: [([Spelled; 5], Option<ValueFault>); 13] = [
+        (
+            [
+                Zeros(64),
+                Zeros(35),
+                Raw(&[0x80]),
+                Raw(&[0xa0]),
+                Raw(&[0x82, 0x01, 0x18, 0x18]),
+            ],
+            None,
+        ),
+        (
+            [
+                Raw(&[0x60]),
+                Zeros(35),
+                Raw(&[0x80]),
+                Raw(&[0xa0]),
+                Raw(&[0x80]),
+            ],
+            Some(ValueFault::Shape(Part::BaseSignature)),
+        ),
+        (
+            [
+                Zeros(65),
+                Zeros(35),
+                Raw(&[0x80]),
+                Raw(&[0xa0]),
+                Raw(&[0x80]),
+            ],
+            Some(ValueFault::Length(Part::BaseSignature)),
+        ),
+        (
+            [
+                Zeros(64),
+                Raw(&[0xa0]),
+                Raw(&[0x80]),
+                Raw(&[0xa0]),
+                Raw(&[0x80]),
+            ],
+            Some(ValueFault::Shape(Part::PublicKey)),
+        ),
+        (
+            [
+                Zeros(64),
+                Zeros(64),
+                Raw(&[0x00]),
+                Raw(&[0xa0]),
+                Raw(&[0x80]),
+            ],
+            Some(ValueFault::Length(Part::PublicKey)),
+        ),
+        (
+            [
+                Zeros(64),
+                Zeros(35),
+                Raw(&[0xa0]),
+                Raw(&[0x80]),
+                Raw(&[0x80]),
+            ],
+            Some(ValueFault::Shape(Part::Signatures)),
+        ),
+        (
+            [
+                Zeros(64),
+                Zeros(35),
+                Raw(&[0x81, 0x40]),
+                Raw(&[0x80]),
+                Raw(&[0x80]),
+            ],
+            Some(ValueFault::Length(Part::Signatures)),
+        ),
+        (
+            [
+                Zeros(64),
+                Zeros(35),
+                Raw(&[0x80]),
+                Raw(&[0x80]),
+                Raw(&[0xa0]),
+            ],
+            Some(ValueFault::Shape(Part::LabelMap)),
+        ),
+        (
+            [
+                Zeros(64),
+                Zeros(35),
+                Raw(&[0x80]),
+                Raw(&[0xa2, 0x00, 0x40, 0x01, 0x00]),
+                Raw(&[0x00]),
+            ],
+            Some(ValueFault::Shape(Part::LabelMap)),
+        ),
+        (
+            [
+                Zeros(64),
+                Zeros(35),
+                Raw(&[0x80]),
+                Raw(&[0xa1, 0x00, 0x40]),
+                Raw(&[0x00]),
+            ],
+            Some(ValueFault::Length(Part::LabelMap)),
+        ),
+        (
+            [
+                Zeros(64),
+                Zeros(35),
+                Raw(&[0x80]),
+                Raw(&[0xa0]),
+                Raw(&[0x82, 0x01, 0x60]),
+            ],
+            Some(ValueFault::Shape(Part::Indexes)),
+        ),
+        (
+            [
+                Zeros(64),
+                Zeros(35),
+                Raw(&[0x80]),
+                Raw(&[0xa0]),
+                Raw(&[0x82, 0x01, 0x01]),
+            ],
+            Some(ValueFault::Indexes),
+        ),
+        (
+            [
+                Zeros(64),
+                Zeros(35),
+                Raw(&[0x80]),
+                Raw(&[0xa0]),
+                Raw(&[0x83, 0x00, 0x02, 0x01]),
+            ],
+            Some(ValueFault::Indexes),
+        ),
+    ];
+    for (parts, want) in derived {
+        let text = text_of(rt.alloc(), [0xd9, 0x5d, 0x01, 0x85], parts.as_slice()).expect(
+            &rt, "memory",
+        );
+        assert!(rt;
+            decode_derived(rt.alloc(), &text).err() == want,
+            "at {text}"
+        );
+    }
+    let four = [Zeros(64), Zeros(35), Zeros(32), Raw(&[0x80])];
+    let text = text_of(rt.alloc(), [0xd9, 0x5d, 0x00, 0x84], four.as_slice()).expect(&rt, "memory");
+    assert!(rt; decode_base(rt.alloc(), &text).err() == Some(ValueFault::Shape(Part::Array)));
+}
+
+/// A digest has 32 bytes, no fewer and no more.
+#[test]
+fn digests_of_another_length(rt: HostRuntime) -> Result<(), Fail> {
+    use Spelled::{Digest, Raw, Zeros};
+    let wrong = Some(ValueFault::Length(Part::LabelMap));
+    for (count, want) in [(31, wrong), (32, None), (33, wrong)] {
+        let parts = [
+            Zeros(64),
+            Zeros(35),
+            Raw(&[0x80]),
+            Digest(count),
+            Raw(&[0x80]),
+        ];
+        let text = text_of(rt.alloc(), [0xd9, 0x5d, 0x01, 0x85], parts.as_slice())?;
+        assert!(rt;
+            decode_derived(rt.alloc(), &text).err() == want,
+            "at {count}"
+        );
     }
     Ok(())
 }
@@ -408,171 +394,144 @@ fn ends_one_up(bytes: &[u8], first: u8) -> bool {
     front.iter().all(|byte| *byte == first) && *last == first.wrapping_add(1)
 }
 
-/// Whether these are the two signatures of the values above.
-fn are_signatures(signatures: &[[u8; 64]]) -> bool {
-    let [first, second] = signatures else {
-        return false;
-    };
-    ends_one_up(first, 0x22) && ends_one_up(second, 0x44)
-}
-
-/// Whether these are the two pointers of the base value above.
-fn are_pointers(pointers: &[Text]) -> bool {
-    let [first, second] = pointers else {
-        return false;
-    };
-    first.as_str() == "" && second.as_str() == "/a~1b/0"
-}
-
-/// Whether the value has the parts of `BASE_FULL`.
-fn is_base(value: &BaseValue) -> bool {
-    count_on(&value.signature, 0)
-        && count_on(&value.key, 100)
-        && count_on(&value.secret, 200)
-        && are_signatures(value.signatures.as_slice())
-        && are_pointers(value.pointers.as_slice())
-}
-
-/// Whether the entry has this number and a digest that ends one up.
-fn is_label(label: &MapEntry, number: u64, first: u8) -> bool {
-    label.number == number && ends_one_up(&label.digest, first)
-}
-
-/// Whether these are the three labels of the derived value above, by rising number.
-fn are_labels(labels: &[MapEntry]) -> bool {
-    let [first, second, third] = labels else {
-        return false;
-    };
-    is_label(first, 0, 0x11) && is_label(second, 24, 0x33) && is_label(third, 1000, 0x55)
-}
-
-/// Whether the value has the parts of `RISING`.
-fn is_derived(value: &DerivedValue) -> bool {
-    count_on(&value.signature, 0)
-        && count_on(&value.key, 100)
-        && are_signatures(value.signatures.as_slice())
-        && are_labels(value.labels.as_slice())
-        && value.indexes.as_slice() == &[1, 23, 500]
-}
-
-/// The base value that the text spells.
-fn base_of(alloc: Global, text: &str) -> Result<BaseValue, ValueFault> {
-    decode_base(alloc, text)
-}
-
-/// The derived value that the text spells.
-fn derived_of(alloc: Global, text: &str) -> Result<DerivedValue, ValueFault> {
-    decode_derived(alloc, text)
-}
-
-/// The base value that the text spells, written.
-fn base_written(alloc: Global, text: &str) -> Result<Text, ValueFault> {
-    let value = decode_base(alloc, text)?;
-    Ok(encode_base(alloc, &value)?)
-}
-
-/// The derived value that the text spells, written.
-fn derived_written(alloc: Global, text: &str) -> Result<Text, ValueFault> {
-    let value = decode_derived(alloc, text)?;
-    Ok(encode_derived(alloc, &value)?)
-}
-
-/// The base value that the text spells, with a signature put in its place.
-fn base_signed(alloc: Global, text: &str, signature: &[u8; 64]) -> Result<Text, ValueFault> {
-    let value = decode_base(alloc, text)?;
-    Ok(draft_base(alloc, &value)?.finish(signature))
-}
-
-/// Each part is read, and values are equal where all of their parts are, however their texts spell
-/// them.
 #[test]
-fn values_have_their_parts(rt: HostRuntime) -> Result<(), Fail> {
-    let base = base_of(rt.alloc(), BASE_FULL)?;
-    assert!(rt; is_base(&base));
-    assert!(rt; base == base_of(rt.alloc(), BASE_FULL)?);
-    assert!(rt; base != base_of(rt.alloc(), BASE_SIGNED)?);
-    let derived = derived_of(rt.alloc(), FALLING)?;
-    assert!(rt; is_derived(&derived));
-    assert!(rt; derived == derived_of(rt.alloc(), RISING)?);
-    assert!(rt; derived != derived_of(rt.alloc(), DERIVED)?);
-    Ok(())
+fn parts_of_a_base_value(rt: HostRuntime) {
+    let base = decode_base(rt.alloc(), BASE_FULL).expect(&rt, "a value");
+    assert!(rt;
+        count_on(&base.signature, 0) && count_on(&base.key, 100) && count_on(&base.secret, 200)
+    );
+    assert!(rt; base.signatures.len() == 2 && base.pointers.len() == 2);
+    for (signature, first) in base.signatures.as_slice().iter().zip([0x22, 0x44]) {
+        assert!(rt; ends_one_up(signature, first), "at {first}");
+    }
+    for (pointer, want) in base.pointers.as_slice().iter().zip(["", "/a~1b/0"]) {
+        assert!(rt; pointer.as_str() == want, "at {want}");
+    }
+    let text = encode_base(rt.alloc(), &base).expect(&rt, "a value");
+    assert!(rt; text.as_str() == BASE_FULL);
+    let draft = draft_base(rt.alloc(), &base).expect(&rt, "a value");
+    let text = draft.finish(&[255; 64]);
+    assert!(rt; text.as_str() == BASE_SIGNED);
+    let base = decode_base(rt.alloc(), BASE).expect(&rt, "a value");
+    let text = encode_base(rt.alloc(), &base).expect(&rt, "a value");
+    assert!(rt; text.as_str() == BASE);
 }
 
 #[test]
-fn values_are_written(rt: HostRuntime) -> Result<(), Fail> {
-    for text in [BASE, BASE_FULL] {
-        assert!(rt; base_written(rt.alloc(), text)?.as_str() == text);
+fn parts_of_a_derived_value(rt: HostRuntime) {
+    for (read, written) in [(FALLING, RISING), (RISING, RISING)] {
+        let derived = decode_derived(rt.alloc(), read).expect(&rt, "a value");
+        assert!(rt; count_on(&derived.signature, 0) && count_on(&derived.key, 100));
+        assert!(rt; derived.signatures.len() == 2 && derived.labels.len() == 3);
+        for (signature, first) in derived.signatures.as_slice().iter().zip([0x22, 0x44]) {
+            assert!(rt; ends_one_up(signature, first), "at {first}");
+        }
+        for (label, (number, first)) in derived
+            .labels
+            .as_slice()
+            .iter()
+            .zip([(0, 0x11), (24, 0x33), (1000, 0x55)])
+        {
+            assert!(rt;
+                label.number == number && ends_one_up(&label.digest, first),
+                "at {number}"
+            );
+        }
+        assert!(rt; derived.indexes.as_slice() == [1, 23, 500].as_slice());
+        let text = encode_derived(rt.alloc(), &derived).expect(&rt, "a value");
+        assert!(rt; text.as_str() == written, "at {read}");
     }
-    let signed = base_signed(rt.alloc(), BASE_FULL, &[255; 64])?;
-    assert!(rt; signed.as_str() == BASE_SIGNED);
-    for (text, want) in [(FALLING, RISING), (RISING, RISING), (DERIVED, DERIVED)] {
-        assert!(rt; derived_written(rt.alloc(), text)?.as_str() == want);
-    }
-    Ok(())
+    let derived = decode_derived(rt.alloc(), DERIVED).expect(&rt, "a value");
+    let text = encode_derived(rt.alloc(), &derived).expect(&rt, "a value");
+    assert!(rt; text.as_str() == DERIVED);
 }
 
-/// The line of each fault, and of a fault in each part.
-const LINES: [(ValueFault, &str); 15] = [
-    (
-        ValueFault::NotMultibase,
-        "the text is not `u` and unpadded base64url",
-    ),
-    (
-        ValueFault::Header,
-        "the three bytes of the kind do not come first",
-    ),
-    (
-        ValueFault::Cbor(CborFault::Truncated(3)),
-        "behind the header, the input ends at byte 3, inside an item",
-    ),
-    (
-        ValueFault::Cbor(CborFault::TooMany),
-        "behind the header, more than 100,000 items begin",
-    ),
-    (
-        ValueFault::Shape(Part::Array),
-        "the list of five parts, or an item in it, has the wrong kind",
-    ),
-    (
-        ValueFault::Length(Part::HmacKey),
-        "the HMAC key, or an item in it, has the wrong length",
-    ),
-    (ValueFault::Indexes, "the mandatory indexes do not rise"),
-    (ValueFault::Memory, "out of memory"),
-    (
-        ValueFault::Shape(Part::BaseSignature),
-        "the base signature, or an item in it, has the wrong kind",
-    ),
-    (
-        ValueFault::Shape(Part::PublicKey),
-        "the public key, or an item in it, has the wrong kind",
-    ),
-    (
-        ValueFault::Shape(Part::HmacKey),
-        "the HMAC key, or an item in it, has the wrong kind",
-    ),
-    (
-        ValueFault::Shape(Part::Signatures),
-        "the list of signatures, or an item in it, has the wrong kind",
-    ),
-    (
-        ValueFault::Shape(Part::Pointers),
-        "the list of mandatory pointers, or an item in it, has the wrong kind",
-    ),
-    (
-        ValueFault::Shape(Part::LabelMap),
-        "the label map, or an item in it, has the wrong kind",
-    ),
-    (
-        ValueFault::Shape(Part::Indexes),
-        "the list of mandatory indexes, or an item in it, has the wrong kind",
-    ),
-];
+/// Values are equal where all of their parts are, however their texts spell them.
+#[test]
+fn values_are_compared(rt: HostRuntime) {
+    let base = decode_base(rt.alloc(), BASE_FULL).expect(&rt, "a value");
+    let again = decode_base(rt.alloc(), BASE_FULL).expect(&rt, "a value");
+    let signed = decode_base(rt.alloc(), BASE_SIGNED).expect(&rt, "a value");
+    assert!(rt; base == again && base != signed);
+    let falling = decode_derived(rt.alloc(), FALLING).expect(&rt, "a value");
+    let rising = decode_derived(rt.alloc(), RISING).expect(&rt, "a value");
+    let other = decode_derived(rt.alloc(), DERIVED).expect(&rt, "a value");
+    assert!(rt; falling == rising && falling != other);
+}
 
+/// The line of each fault.
 #[test]
 fn lines_of_faults(rt: HostRuntime) -> Result<(), Fail> {
-    for (fault, want) in LINES {
+    let cases: [(ValueFault, &str); 8] = [
+        (
+            ValueFault::NotMultibase,
+            "the text is not `u` and unpadded base64url",
+        ),
+        (
+            ValueFault::Header,
+            "the three bytes of the kind do not come first",
+        ),
+        (
+            ValueFault::Cbor(CborFault::Truncated(3)),
+            "behind the header, the input ends at byte 3, inside an item",
+        ),
+        (
+            ValueFault::Cbor(CborFault::TooMany),
+            "behind the header, more than 100,000 items begin",
+        ),
+        (
+            ValueFault::Shape(Part::Array),
+            "the list of five parts, or an item in it, has the wrong kind",
+        ),
+        (
+            ValueFault::Length(Part::HmacKey),
+            "the HMAC key, or an item in it, has the wrong length",
+        ),
+        (ValueFault::Indexes, "the mandatory indexes do not rise"),
+        (ValueFault::Memory, "out of memory"),
+    ];
+    for (fault, want) in cases {
         let line = fault.to_string(rt.alloc())?;
+        assert!(rt; line.as_str() == want);
+    }
+    Ok(())
+}
+
+/// The line of a fault in each part.
+#[test]
+fn lines_of_parts(rt: HostRuntime) -> Result<(), Fail> {
+    let cases: [(Part, &str); 7] = [
+        (
+            Part::BaseSignature,
+            "the base signature, or an item in it, has the wrong kind",
+        ),
+        (
+            Part::PublicKey,
+            "the public key, or an item in it, has the wrong kind",
+        ),
+        (
+            Part::HmacKey,
+            "the HMAC key, or an item in it, has the wrong kind",
+        ),
+        (
+            Part::Signatures,
+            "the list of signatures, or an item in it, has the wrong kind",
+        ),
+        (
+            Part::Pointers,
+            "the list of mandatory pointers, or an item in it, has the wrong kind",
+        ),
+        (
+            Part::LabelMap,
+            "the label map, or an item in it, has the wrong kind",
+        ),
+        (
+            Part::Indexes,
+            "the list of mandatory indexes, or an item in it, has the wrong kind",
+        ),
+    ];
+    for (part, want) in cases {
+        let line = ValueFault::Shape(part).to_string(rt.alloc())?;
         assert!(rt; line.as_str() == want);
     }
     let list = Part::Array.to_string(rt.alloc())?;
