@@ -10,6 +10,8 @@ mod chains;
 #[cfg(test)]
 mod first_degree;
 #[cfg(test)]
+mod hmac;
+#[cfg(test)]
 mod n_degree;
 #[cfg(test)]
 mod node_tables;

@@ -1,0 +1,3 @@
+pub mod Searching
+pub mod Relabelling
+pub mod Labelling
