@@ -83,7 +83,8 @@ const BASE: &str = "http://a/b/c/d;p?q";
 
 #[test]
 fn references_mean_what_the_standard_says(rt: HostRuntime) -> Result<(), Fail> {
-    for (reference, wanted) in EXAMPLES {
+    for row in &EXAMPLES {
+        let (reference, wanted) = *row;
         assert!(rt; is_absolute(BASE));
         let iri = resolve(rt.alloc(), BASE, reference)?;
         assert!(rt; iri.as_str() == wanted, "{reference}");
@@ -95,12 +96,14 @@ fn references_mean_what_the_standard_says(rt: HostRuntime) -> Result<(), Fail> {
 
 #[test]
 fn other_bases(rt: HostRuntime) -> Result<(), Fail> {
-    for (base, reference, wanted) in WITH_AUTHORITY {
+    for row in &WITH_AUTHORITY {
+        let (base, reference, wanted) = *row;
         assert!(rt; is_absolute(base), "{base}");
         let iri = resolve(rt.alloc(), base, reference)?;
         assert!(rt; iri.as_str() == wanted, "{base} {reference}");
     }
-    for (base, reference, wanted) in WITHOUT_AUTHORITY {
+    for row in &WITHOUT_AUTHORITY {
+        let (base, reference, wanted) = *row;
         assert!(rt; is_absolute(base), "{base}");
         let iri = resolve(rt.alloc(), base, reference)?;
         assert!(rt; iri.as_str() == wanted, "{base} {reference}");
@@ -260,7 +263,8 @@ fn some_span(ends: Option<(u64, u64)>) -> Option<Span> {
 
 #[test]
 fn texts_have_the_components_of_the_standard(rt: HostRuntime) {
-    for (text, scheme, authority, path, query, fragment) in PARTS {
+    for row in &PARTS {
+        let (text, scheme, authority, path, query, fragment) = *row;
         let wanted = Parts {
             scheme: some_span(scheme),
             authority: some_span(authority),

@@ -30,7 +30,8 @@ const KEYWORDS: [(&str, LdKeyword); 23] = [
 
 #[test]
 fn keywords_are_those_of_the_standard(rt: HostRuntime) {
-    for (text, word) in KEYWORDS {
+    for row in &KEYWORDS {
+        let (text, word) = *row;
         assert!(rt; keyword(text) == Some(word));
         assert!(rt; word.text() == text);
         assert!(rt; is_keyword_form(text));
@@ -138,7 +139,8 @@ const CODES: [(Code, &str); 49] = [
 
 #[test]
 fn codes_are_those_of_the_standard(rt: HostRuntime) {
-    for (code, text) in CODES {
+    for row in &CODES {
+        let (code, text) = *row;
         assert!(rt; code.text() == text);
     }
 }

@@ -26,7 +26,8 @@ const DIGESTS: [(&[u8], &[u8; 64]); 4] = [
 
 #[test]
 fn known_digests(rt: HostRuntime) {
-    for (message, digits) in DIGESTS {
+    for row in &DIGESTS {
+        let (message, digits) = *row;
         assert_eq!(rt; sha256_hex(message), *digits);
     }
     assert_eq!(rt;
@@ -57,7 +58,8 @@ const LONG_DIGESTS: [(&[u8], &str); 3] = [
 
 #[test]
 fn digests_by_either_hash(rt: HostRuntime) -> Result<(), Fail> {
-    for (message, digits) in DIGESTS {
+    for row in &DIGESTS {
+        let (message, digits) = *row;
         let digest = digest_hex(Hash::Sha256, message);
         assert_eq!(rt; digest.as_str().as_bytes(), digits.as_slice());
         assert_eq!(rt;
@@ -65,7 +67,8 @@ fn digests_by_either_hash(rt: HostRuntime) -> Result<(), Fail> {
             sha256(message).as_slice()
         );
     }
-    for (message, digits) in LONG_DIGESTS {
+    for row in &LONG_DIGESTS {
+        let (message, digits) = *row;
         let digest = digest_hex(Hash::Sha384, message);
         assert_eq!(rt; digest.as_str(), digits);
         let bytes = digest_of(Hash::Sha384, message);
@@ -162,7 +165,8 @@ const KEYED_DIGESTS: [(&[u8], &[u8], &str, &str); 10] = [
 #[test]
 fn known_keyed_digests(rt: HostRuntime) -> Result<(), Fail> {
     let alloc = rt.alloc();
-    for (key, text, short, long) in KEYED_DIGESTS {
+    for row in &KEYED_DIGESTS {
+        let (key, text, short, long) = *row;
         let digest = hmac(Hash::Sha256, key, text, b"");
         assert_eq!(rt; hex::encode(alloc, digest.as_slice())?.as_str(), short);
         let digest = hmac(Hash::Sha384, key, b"", text);
@@ -202,7 +206,8 @@ const LABELS: [(&[u8], &str); 10] = [
 
 #[test]
 fn known_labels(rt: HostRuntime) -> Result<(), Fail> {
-    for (bytes, label) in LABELS {
+    for row in &LABELS {
+        let (bytes, label) = *row;
         assert_eq!(rt; label_text(rt.alloc(), bytes)?.as_str(), label);
     }
     Ok(())

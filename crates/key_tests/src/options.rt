@@ -109,7 +109,8 @@ fn instant_and_text(alloc: Global, text: &str) -> Result<String, Fail> {
 
 #[test]
 fn stamps_have_their_instants(rt: HostRuntime) -> Result<(), Fail> {
-    for (text, expected) in STAMPS {
+    for row in &STAMPS {
+        let (text, expected) = *row;
         let wanted = format!(in rt.alloc(); "{expected} {text}")?;
         assert_eq!(rt;
             instant_and_text(rt.alloc(), text)?.as_str(),
@@ -211,7 +212,8 @@ fn checked(alloc: Global, text: &str, suite: Suite) -> Result<String, Fail> {
 
 #[test]
 fn options_are_refused_at_their_first_bad_field(rt: HostRuntime) -> Result<(), Fail> {
-    for (text, expected) in OPTIONS {
+    for row in &OPTIONS {
+        let (text, expected) = *row;
         let shown = checked(rt.alloc(), text, Suite::Selective)?;
         assert_eq!(rt; shown.as_str(), expected, "at {text}");
     }
@@ -249,7 +251,8 @@ const DOCUMENTS: [(Suite, &str, &str, &str, &str); 2] = [
 
 #[test]
 fn documents_are_split(rt: HostRuntime) -> Result<(), Fail> {
-    for (suite, text, body, options, value) in DOCUMENTS {
+    for row in &DOCUMENTS {
+        let (suite, text, body, options, value) = *row;
         let document = read(rt.alloc(), text.as_bytes())?;
         let Ok(parts) = split_as(rt.alloc(), &document, suite) else {
             panic!(rt; "refused: {text}");
@@ -284,7 +287,8 @@ const REFUSED: [(&str, &str); 7] = [
 
 #[test]
 fn documents_are_refused_at_their_first_bad_field(rt: HostRuntime) -> Result<(), Fail> {
-    for (text, expected) in REFUSED {
+    for row in &REFUSED {
+        let (text, expected) = *row;
         let document = read(rt.alloc(), text.as_bytes())?;
         match split(rt.alloc(), &document) {
             Err(OptionFault::Bad(field)) => {
