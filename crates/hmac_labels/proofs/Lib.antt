@@ -5,3 +5,4 @@ pub mod Relabelling
 pub mod Answering
 pub mod Grammar
 pub mod Runs
+pub mod SameBlanks

@@ -4,7 +4,9 @@ ghost use Rattle.std.specs.Prelude.{◌≡◌, ◌%◌, ◌/◌, ℕ, List, [], 
 ghost use Rattle.digest_mac.specs.Labels.{hmac_label};
 ghost use Rattle.digest_mac.specs.declared.hash.Hash.{Hash};
 ghost use Rattle.nquads.specs.Terms.{IsLabel, Statement};
-ghost use Rattle.nquads.specs.Stored.{labels_by_text};
+ghost use Rattle.term_store.specs.declared.statements.Quad.{Quad};
+ghost use Rattle.nquads.specs.Stored.{AreLabelsKnown, IsLabelled, labels_by_text};
+ghost use Rattle.nquads.specs.declared.numbers.Label.{Label};
 ghost use Rattle.rdfc_ndegree.specs.declared.limits.Limits.{Limits};
 ghost use Rattle.rdfc_canon.specs.Canon.{AnswersRun};
 ghost use Rattle.rdfc_canon.specs.declared.canon.Canon.{Canon};
@@ -40,4 +42,16 @@ pub fn labels_follow_the_run()
         (limits : Limits) (c : Canon) (given : HmacLabels) (a : AnswersRun hash texts q limits c)
         → AreHmacLabels hash key c.labels given
         → labels_by_text texts given.labels ≡ run_labels hash key q a.run.issuer }
+{}
+
+/// The same blank nodes have labels: where the canonical labels are of numbers of the store, and
+/// label a statement, so do these.
+pub fn the_same_blank_nodes_have_labels()
+    ensures known { (hash : Hash) (key : List ℕ) (texts : List (List ℕ)) (canonical : List Label)
+        (given : HmacLabels) → AreHmacLabels hash key canonical given
+        → AreLabelsKnown texts canonical → AreLabelsKnown texts given.labels }
+    ensures labelled { (hash : Hash) (key : List ℕ) (texts : List (List ℕ))
+        (canonical : List Label) (given : HmacLabels) (quad : Quad)
+        → AreHmacLabels hash key canonical given
+        → IsLabelled texts canonical quad → IsLabelled texts given.labels quad }
 {}

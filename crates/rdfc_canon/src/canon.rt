@@ -3,7 +3,7 @@ ghost use Rattle.std.specs.Prelude.{◌≡◌, ◌↔◌, ℕ, List, map, true, 
 ghost use Rattle.base_types.specs.Sets.{AllDiffer};
 ghost use Rattle.nquads.specs.Terms.{Blank, Statement};
 ghost use Rattle.nquads.specs.Spelling.{text_quad};
-ghost use Rattle.nquads.specs.Stored.{AreLabelsKnown, IsKnown, labels_by_text, quad_texts};
+ghost use Rattle.nquads.specs.Stored.{AreLabelsKnown, IsKnown, IsLabelled, labels_by_text, quad_texts};
 ghost use Rattle.rdfc_ndegree.specs.declared.limits.CanonFault.TheVariants as fault;
 ghost use Rattle.rdfc_canon.specs.Canon.{nodes, canonical_labels, NameAll, AnswersRun, RunOutcome, IsRun, MeetsTie, WorkOver, IsWithinWork};
 ghost use Rattle.rdfc_canon.specs.Internal.Form.{Canonicalised};
@@ -54,6 +54,8 @@ pub fn canonicalise(
         → IfOk result (λ c. NameAll q (labels_by_text terms.now c.labels)) }
     // Each label is that of a number of the store.
     ensures known { IfOk result (λ c. AreLabelsKnown terms.now c.labels) }
+    // Each blank node of each statement has one, so that its line can be written.
+    ensures labelled { IfOk result (λ c. All (IsLabelled terms.now c.labels) quads.now) }
     // A tie is reported exactly where a run meets one, and without one every run gives these
     // labels.
     ensures tie { (q : List Statement) → map (quad_texts terms.now) quads.now ≡ map text_quad q
@@ -87,6 +89,7 @@ fn canonical_form(
     ensures is { (q : List Statement) → map (quad_texts terms.now) quads.now ≡ map text_quad q
         → Canonicalised hash terms.now q limits.now result }
     ensures known { IfOk result (λ c. AreLabelsKnown terms.now c.labels) }
+    ensures labelled { IfOk result (λ c. All (IsLabelled terms.now c.labels) quads.now) }
 {
     tell_apart(terms);
     let firsts = first_hashes(alloc, terms, quads, hash)?;

@@ -57,3 +57,7 @@ returns-clause-is c = λ q is.
 pub returns-clause-known : goal.returns-clause-known
 returns-clause-known c =
     subst (AreLabelsKnown c.args.terms.now) (sym (c.in_ok-labels.ensures ∙ (λ i. all_labels (c.as_slice-2.ensures.value i) [] (c.as_slice-3.ensures.same i)))) (labels-known c.args.terms.now c.in_ok-firsts.firsts.items [] c.in_ok-numbered.numbered.canonical c.in_ok-firsts.ensures.numbers (All-nil (λ (l : Label). l.blank.index < length c.args.terms.now)))
+
+pub returns-clause-labelled : goal.returns-clause-labelled
+returns-clause-labelled c =
+    subst (λ ls. All (IsLabelled c.args.terms.now ls) c.args.quads.now) (sym (c.in_ok-labels.ensures ∙ (λ i. all_labels (c.as_slice-2.ensures.value i) [] (c.as_slice-3.ensures.same i)))) (all-labelled c.args.terms.now c.in_ok-firsts.firsts.items c.in_ok-numbered.numbered.canonical (covered c.args.hash c.args.terms.now c.in_ok-firsts.firsts.items c.in_ok-table.table (ap (first_names c.args.terms.now) (sym c.as_slice.ensures.value) ∙ sym (c.in_ok-table.ensures.firsts (subst (λ hs. AllDiffer (map (λ (h : BlankHash). h.blank.index) hs)) (sym c.as_slice.ensures.value) (AllDiffer-strictly_sorted nat_cmp_total (map (λ (h : BlankHash). h.blank.index) c.in_ok-firsts.firsts.items) c.in_ok-firsts.ensures.order)) refl)) c.run.ensures.closed c.args.limits.now c.in_ok-numbered.numbered.canonical c.in_ok-numbered.numbered.tie c.in_ok-numbered.numbered.work c.in_ok-numbered.ensures.ok) c.args.quads.now c.in_ok-firsts.ensures.named)
