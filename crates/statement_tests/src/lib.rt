@@ -1,4 +1,4 @@
-//! Tests of terms, of N-Quads, of flat documents, and of what records say.
+//! Tests of terms, of N-Quads, and of flat documents.
 #![tactic(auto)]
 
 #[cfg(test)]
@@ -7,8 +7,6 @@ mod flat_documents;
 mod lines;
 #[cfg(test)]
 mod reading;
-#[cfg(test)]
-mod records;
 #[cfg(test)]
 mod terms;
 #[cfg(test)]

@@ -1,0 +1,5 @@
+//! Tests of groups of statements, and of what records and refusals say.
+#![tactic(auto)]
+
+#[cfg(test)]
+mod records;
