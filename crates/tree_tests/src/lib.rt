@@ -4,6 +4,8 @@
 #[cfg(test)]
 mod contexts;
 #[cfg(test)]
+mod literals;
+#[cfg(test)]
 mod pointers;
 #[cfg(test)]
 mod trees;
