@@ -50,7 +50,7 @@ whole_part (d ∷ ds) first all =
     ap (λ t. cond t (Some (drop 1 (d ∷ ds))) (after_digits (d ∷ ds))) (ne_eqb d 48 (λ e. omega arith))
     ∙ ap (λ k. cond (k == 0) None (Some (drop k (d ∷ ds)))) all
     ∙ ap (λ t. cond t None (Some (drop (length (d ∷ ds)) (d ∷ ds)))) (ne_eqb (length (d ∷ ds)) 0 (λ e. omega arith))
-    ∙ ap (λ rest. Some rest) (drop_of_length-le (d ∷ ds) (omega arith))
+    ∙ ap (λ rest. Some rest) (drop_of_length-le (d ∷ ds) {i = length (d ∷ ds)} (omega arith))
 
 no_sign : (ds : List ℕ) → 48 < get_or ds 0 0 → after_minus ds ≡ ds
 no_sign [] first = absurd (omega arith)

@@ -155,14 +155,11 @@ unfolding print_from
 prints_object members all true rest = ap (λ t. 44 ∷ 123 ∷ t) (prints_all member_tokens text_of_member Token.end_object (codes "}") closes_object members all rest ∙ sym (append_assoc (join_by text_of_member (codes ",") members) (codes "}") (print_from true rest)))
 prints_object members all false rest = ap (λ t. 123 ∷ t) (prints_all member_tokens text_of_member Token.end_object (codes "}") closes_object members all rest ∙ sym (append_assoc (join_by text_of_member (codes ",") members) (codes "}") (print_from true rest)))
 
-named : (q a r : List ℕ) → (q ++ 58 ∷ []) ++ (a ++ r) ≡ (q ++ 58 ∷ a) ++ r
-named q a r = append_assoc q (58 ∷ []) (a ++ r) ∙ sym (append_assoc q (58 ∷ a) r)
-
 named_value : (m : Member Tree) → Prints (tokens_of m.value) (canonical_json m.value) → (rest : List Token) → (quoted m.key ++ 58 ∷ []) ++ print_from false (tokens_of m.value ++ rest) ≡ text_of_member m ++ print_from true rest
 named_value m p rest =
     ap (λ t. (quoted m.key ++ 58 ∷ []) ++ t) (p false rest)
     ∙ ap (λ q. (q ++ 58 ∷ []) ++ (canonical_json m.value ++ print_from true rest)) (quoted-string m.key)
-    ∙ named (string_text m.key) (canonical_json m.value) (print_from true rest)
+    ∙ sym (append_assoc (string_text m.key ++ 58 ∷ []) (canonical_json m.value) (print_from true rest))
 
 prints_member : (m : Member Tree) → Prints (tokens_of m.value) (canonical_json m.value) → Prints (member_tokens m) (text_of_member m)
 unfolding print_from

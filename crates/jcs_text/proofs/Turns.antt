@@ -87,9 +87,9 @@ inner None x e = absurd (cc)
 inner (Some y) x e = cc
 
 -- the member at the next index is the next in order
-pub member_here : (members ordered : List (Member Tree)) (order : List ℕ) (k at : ℕ) (m : Member Tree) → map (slice_get members) order ≡ map Some ordered → k < length order → at ≡ get_or order k at → at < length members → m ≡ get_or members at m → (k < length ordered) × (m ≡ get_or ordered k m)
+pub member_here : (members ordered : List (Member Tree)) (order : List ℕ) (k at : ℕ) (m : Member Tree) → map (slice_get members) order ≡ map Some ordered → k < length order → at ≡ get_or order k 0 → at < length members → m ≡ get_or members at m → (k < length ordered) × (m ≡ get_or ordered k m)
 member_here members ordered order k at m same within is below here =
-    let index : slice_get order k ≡ Some at = slice_get-get_or order k at within ∙ ap (λ n. Some n) (sym is) in
+    let index : slice_get order k ≡ Some at = slice_get-get_or order k 0 within ∙ ap (λ n. Some n) (sym is) in
     let found : slice_get members at ≡ Some m = slice_get-get_or members at m below ∙ ap (λ n. Some n) (sym here) in
     let mapped : slice_get (map (slice_get members) order) k ≡ Some (Some m) = slice_get-map (slice_get members) order k ∙ ap (option_map (slice_get members)) index ∙ ap (λ o. Some o) found in
     let stands : slice_get ordered k ≡ Some m = inner (slice_get ordered k) m (sym (slice_get-map (λ n. Some n) ordered k) ∙ ap (λ os. slice_get os k) (sym same) ∙ mapped) in
@@ -99,7 +99,7 @@ member_here members ordered order k at m same within is below here =
 pub record IsNext (members ordered : List (Member Tree)) (order : List ℕ) (k at : ℕ) (m : Member Tree) : Type 0 where
   pub same : map (slice_get members) order ≡ map Some ordered
   pub within : k < length order
-  pub index : at ≡ get_or order k at
+  pub index : at ≡ get_or order k 0
   pub below : at < length members
   pub here : m ≡ get_or members at m
 

@@ -12,21 +12,8 @@ use Rattle.jcs_text.proofs.Equations.{tokens_of-Null, tokens_of-Bool, tokens_of-
 use Rattle.jcs_text.proofs.Turns.{token_written, number_written, any_end, item_turn, any_next, any_ordered, IsNext, ordered_turn, ordered_next, members_end, list_written}
 use Rattle.jcs_text.proofs.writing.+write.Goals as goal
 
-pub write_tree-returns-in-Null : goal.write_tree-returns-in-Null
-write_tree-returns-in-Null t c = token_written c.args.tree.now v.Null c.args.out.now c.null.new.self Token.null c.in-Null.is tokens_of-Null holds_version-Null c.in_ok-null.ensures.ok c.in_ok-null.ensures.room.0
-
-pub write_tree-returns-in-Bool : goal.write_tree-returns-in-Bool
-write_tree-returns-in-Bool t c = token_written c.args.tree.now (v.Bool c.in-Bool.b) c.args.out.now c.boolean.new.self (Token.boolean c.in-Bool.b) c.in-Bool.is (tokens_of-Bool c.in-Bool.b) (holds_version-Bool c.in-Bool.b) c.in_ok-boolean.ensures.ok c.in_ok-boolean.ensures.room.0
-
-pub write_tree-returns-in-Whole : goal.write_tree-returns-in-Whole
-write_tree-returns-in-Whole t c = number_written c.args.tree.now c.in-Whole.n c.args.out.now c.write_number.new.out c.in-Whole.is c.in_ok-write_number.ensures
-
 pub write_tree-returns-in-Version : goal.write_tree-returns-in-Version
 write_tree-returns-in-Version t c = ap holds_version c.in-Version.is ∙ holds_version-Version
-
-pub write_tree-returns-in-Text : goal.write_tree-returns-in-Text
-write_tree-returns-in-Text t c =
-    token_written c.args.tree.now (v.Text c.in-Text.text) c.args.out.now c.string.new.self (Token.string c.in-Text.text) c.in-Text.is (tokens_of-Text c.in-Text.text) (holds_version-Text c.in-Text.text) (rw c.as_str.ensures at c.in_ok-string.ensures.ok) c.in_ok-string.ensures.room.0
 
 pub write_tree-returns-in-List : goal.write_tree-returns-in-List
 write_tree-returns-in-List t c = rw (c.in-List.is, tokens_of-List, holds_version-List, ← c.as_slice.ensures) c.write_items.ensures
