@@ -1,5 +1,5 @@
 -- What is in the order of its names: `in_name_order` is what a stable sort by code units leaves.
-use Rattle.std.proofs.Common.{◌≡◌, ℕ, zero, suc, ◌+◌, ◌<◌, List, [], ◌∷◌, ◌++◌, map, map-id, length, get_or, Option, Some, Bool, true, false, cond, not, ◌&&◌, refl, sym, ap, ◌∙◌, subst, arith, slice_get, filter}
+use Rattle.std.proofs.Common.{◌≡◌, ℕ, zero, suc, ◌+◌, ◌<◌, List, [], ◌∷◌, ◌++◌, map, map-id, length, get_or, Some, Bool, true, false, cond, not, refl, sym, ap, ◌∙◌, subst, arith, slice_get, filter}
 use Rattle.std.specs.Prelude.{All}
 use Rattle.std.specs.List.{AllByRecursion, range_with_len}
 use Rattle.std.specs.List.Sorted.{IsPermutation, IsSortedBy, IsStableBy, ties}
@@ -10,7 +10,6 @@ use Rattle.std.proofs.lemmas.Bool.{and_parts, and_from, true≢false}
 use Rattle.std.proofs.lemmas.List.Elements.{recursion_from_All}
 use Rattle.std.proofs.lemmas.List.FromFn.{length-range_with_len, get_or-range_with_len, map-range_with_len_more}
 use Rattle.std.proofs.lemmas.List.Sorted.{IsPermutation-refl, IsPermutation-sym, IsPermutation-trans, IsPermutation-cons, IsPermutation-middle, All-permutation, ranks_by, sorted_far}
-use Rattle.base_types.specs.Order.{is_before}
 use Rattle.base_types.proofs.Lists.{get_or-next, map-map}
 use Rattle.base_types.proofs.Orders.{is_before-strict}
 use Rattle.json_tree.specs.declared.tree.Tree.{Tree}

@@ -1,6 +1,6 @@
 -- The canonical text of a tree reads as the tree with its lists renumbered: the reader puts the members of each object
 -- back into the byte order of their names.
-use Rattle.std.proofs.Common.{◌≡◌, ◌≤◌, ℕ, ℤ, suc, max, Bool, true, false, cond, List, [], ◌∷◌, ◌++◌, map, flat_map, Option, Some, None, Ok, Less, Equal, Greater, Ordering, option_map, option_and_then, codes, append-nil, append_assoc, refl, sym, ap, ap₂, ◌∙◌, subst, arith, IsUtf8}
+use Rattle.std.proofs.Common.{◌≡◌, ◌≤◌, ℕ, ℤ, suc, max, Bool, true, false, cond, List, [], ◌∷◌, ◌++◌, map, flat_map, Option, Some, None, Ok, Less, Equal, Greater, option_map, option_and_then, codes, append-nil, append_assoc, refl, sym, ap, ap₂, ◌∙◌, subst, arith, IsUtf8}
 use Rattle.std.specs.Fmt.{signed_decimal}
 use Rattle.std.specs.List.{AllByRecursion, list_all}
 use Rattle.std.specs.List.Sorted.{IsStrictlySortedBy}
@@ -13,7 +13,7 @@ use Rattle.json.specs.Print.{print}
 use Rattle.json.specs.Token.{Token}
 use Rattle.json.specs.Tree as jsons
 use Rattle.json.proofs.Printed.Trees.{value-json_tokens}
-use Rattle.serde_json.specs.Data.{Data, Items, item, Members, no_members, member, array, object, put}
+use Rattle.serde_json.specs.Data.{Data, item, Members, no_members, member, array, object, put}
 use Rattle.serde_json.specs.Read as reader
 use Rattle.base_types.specs.Order.{is_before, each_next}
 use Rattle.base_types.proofs.Orders.{by_cmp}

@@ -1,4 +1,4 @@
-use Rattle.std.proofs.Common.{refl, pos, negsuc, ◌∙◌, ◌-◌, ◌^◌}
+use Rattle.std.proofs.Common.{pos, negsuc, ◌-◌, ◌^◌}
 use Rattle.std.specs.Fmt.{digits}
 use Rattle.jcs_text.proofs.Equations.{canonical_json-Whole}
 use Rattle.jcs_text.proofs.laws.worked_numbers.Goals as goal

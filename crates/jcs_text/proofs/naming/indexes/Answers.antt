@@ -1,5 +1,4 @@
-use Rattle.std.proofs.Common.{map-id, ap, sym, ◌∙◌, ◌++◌, ◌∷◌, [], refl}
-use Rattle.std.proofs.lemmas.List.FromFn.{map-range_with_len_more}
+use Rattle.std.proofs.Common.{ap, sym, ◌∙◌, ◌++◌, ◌∷◌, []}
 use Rattle.jcs_text.proofs.NameOrders.{range-more}
 use Rattle.jcs_text.proofs.naming.indexes.Goals as goal
 

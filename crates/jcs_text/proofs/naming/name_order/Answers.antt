@@ -1,9 +1,7 @@
-use Rattle.std.proofs.Common.{◌≡◌, ℕ, List, IfOk, rules, of_calls, ap, ◌∙◌}
-use Rattle.std.specs.List.{range_with_len}
+use Rattle.std.proofs.Common.{ℕ, List, rules, of_calls, ap}
 use Rattle.std.specs.List.Sorted.{IsSortedBy, IsStableBy}
 use Rattle.std.specs.Ordering.{is_lt}
 use Rattle.std.proofs.lemmas.Fn.{always_returns_same}
-use Rattle.jcs_text.specs.Canonical.{in_name_order}
 use Rattle.jcs_text.specs.Internal.Naming.{name_at}
 use Rattle.jcs_text.proofs.NameOrders.{is_earlier, names-ordered, order-only, indexes-below, members-ordered}
 use Rattle.jcs_text.proofs.naming.name_order.Goals as goal

@@ -1,15 +1,14 @@
 use Rattle.std.proofs.Common.{◌∙◌, ◌<◌, All, ap, refl, sym, subst, length, map, slice_get, get_or}
 use Rattle.json.specs.Token.{Token}
 use Rattle.json_tree.specs.declared.tree.Tree.{Tree}
-use Rattle.json_tree.specs.declared.tree.Tree.TheVariants as v
 use Rattle.json_tree.specs.declared.tree.Item.{Item}
 use Rattle.json_tree.specs.declared.tree.Member.{Member}
 use Rattle.json_tree.specs.Trees.{holds_version}
-use Rattle.json_tree.proofs.Equations.{holds_version-Null, holds_version-Bool, holds_version-Version, holds_version-Text, holds_version-List, holds_version-Object}
+use Rattle.json_tree.proofs.Equations.{holds_version-Version, holds_version-List, holds_version-Object}
 use Rattle.jcs_text.specs.Canonical.{in_name_order}
 use Rattle.jcs_text.specs.Internal.Writing.{item_tokens, member_tokens}
-use Rattle.jcs_text.proofs.Equations.{tokens_of-Null, tokens_of-Bool, tokens_of-Text, tokens_of-List, tokens_of-Object}
-use Rattle.jcs_text.proofs.Turns.{token_written, number_written, any_end, item_turn, any_next, any_ordered, IsNext, ordered_turn, ordered_next, members_end, list_written}
+use Rattle.jcs_text.proofs.Equations.{tokens_of-List, tokens_of-Object}
+use Rattle.jcs_text.proofs.Turns.{any_end, item_turn, any_next, any_ordered, IsNext, ordered_turn, ordered_next, members_end, list_written}
 use Rattle.jcs_text.proofs.writing.+write.Goals as goal
 
 pub write_tree-returns-in-Version : goal.write_tree-returns-in-Version

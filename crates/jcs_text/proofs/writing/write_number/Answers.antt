@@ -1,4 +1,4 @@
-use Rattle.std.proofs.Common.{rules, ◌∙◌}
+use Rattle.std.proofs.Common.{rules}
 use Rattle.jcs_text.proofs.Decimals.{number-text}
 use Rattle.jcs_text.proofs.writing.write_number.Goals as goal
 
