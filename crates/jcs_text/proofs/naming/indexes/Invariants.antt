@@ -1,0 +1,7 @@
+use Rattle.std.proofs.Common.{◌≡◌}
+use Rattle.std.specs.List.{range_with_len}
+use Rattle.jcs_text.proofs.naming.indexes.Given as goal
+
+-- the numbers so far
+abbrev pub invariant-loop-at : goal.invariant-loop-at
+invariant-loop-at l = l.all.items ≡ range_with_len 0 l.at

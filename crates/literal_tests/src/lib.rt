@@ -1,0 +1,5 @@
+//! Tests of the texts of JSON literals.
+#![tactic(auto)]
+
+#[cfg(test)]
+mod texts;
