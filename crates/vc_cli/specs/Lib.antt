@@ -1,2 +1,3 @@
 pub mod Commands
 pub mod Delivery
+pub mod KeyFiles

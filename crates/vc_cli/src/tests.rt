@@ -1,10 +1,11 @@
 //! The program over worked rows: each has a name, the one edit of a request, the status and the line of
 //! the reply. The lines, digests and proof values were made apart from this program.
 
+use crate::key_files_tests::{ROOT, SEED};
 use crate::run::run;
 use crate::status::Status;
-use crate::watched_device::{FailingDevice, WatchedDevice};
-use key_device::{KeyDevice, KeyName, LedgerDevice};
+use crate::watched_device::WatchedDevice;
+use key_device::{BrokenDevice, HmacDevice, KeyDevice, KeyName, LedgerDevice};
 use nquads::{Memory, Text};
 use std::alloc::Global;
 use std::test::Fail;
@@ -624,7 +625,7 @@ fn failing_calls(rt: HostRuntime) -> Result<(), Fail> {
         assert_eq!(rt; ended.1.as_slice(), written.as_bytes(), "at {written}");
     }
     for (word, request) in [("issue", ISSUE), ("verify", VERIFY)] {
-        let mut device = FailingDevice::new();
+        let mut device = BrokenDevice::new();
         let input = Vec::from_slice(alloc, request.as_bytes())?;
         let ended = outcome(alloc, &[word], input, &mut device)?;
         assert_eq!(rt; ended.0, Status::DeviceFault, "at {word}");
@@ -698,6 +699,47 @@ fn refuses_to_verify(rt: HostRuntime) -> Result<(), Fail> {
         let ended = outcome(alloc, &["verify"], input, &mut device)?;
         assert_eq!(rt; ended.0, row.3, "at {}", row.0);
         assert_eq!(rt; ended.1, line(alloc, row.4)?, "at {}", row.0);
+    }
+    Ok(())
+}
+
+/// The issuer's key of the requests above, as digits, and one that a device by HMAC owns.
+const ISSUER_DIGITS: &str =
+    "802403abcdef0123456789abcdef0123456789abcdef0123456789abcdef0123456789";
+
+const ZERO_DIGITS: &str = "0000000000000000000000000000000000000000000000000000000000000000000000";
+
+/// The derived value of the requests above.
+const LEDGER_VALUE: &str =
+    "u2V0BhVhAAAAAAAAAAAAAAAAAAAAAAAAAAAAAAAAAAAAAAAAAAAAAAAAAAAAAAAAAAAAAAAAAAAAAAAAAAAAAAAAAAAAAAVgjAAEAAAAAAAAAAAAAAAAAAAAAAAAAAAAAAAAAAAAAAAAAAAGAoIEA";
+
+/// What is issued with the key of zeros by the device with this root and seed, the derived value of
+/// that, and that it verifies. The signature and the fresh bytes were made apart from this program.
+const HMAC_ISSUED: &str =
+    r#"{"document":{"@context":"https://ex.org/f","@id":"https://ex.org/a","name":"Ann","proof":{"@id":"https://ex.org/o","cryptosuite":"ecdsa-sd-2023","proofPurpose":"assertionMethod","proofValue":"u2V0AhVhAnZeTHSlibXvfaMekl6M8bFF67Xze11s8UsAPECh3dIcnBeQKlFYbH48qdCDFmv5j_Yi6aOMlAvDlTsFDyIsp-lgjAAABcRnobqfEklC0Mjk5Vw_99lZ3_Sn28ef93_mXnty3UnVYIJRFDln_cqeegiiPhUTsPCIvD0HcufgMowg0nCRDhn7pgIFg","type":"DataIntegrityProof","verificationMethod":"urn:k"}},"mandatory":1,"statements":1,"tie":false}"#;
+
+const HMAC_VALUE: &str =
+    "u2V0BhVhAnZeTHSlibXvfaMekl6M8bFF67Xze11s8UsAPECh3dIcnBeQKlFYbH48qdCDFmv5j_Yi6aOMlAvDlTsFDyIsp-lgjAAABcRnobqfEklC0Mjk5Vw_99lZ3_Sn28ef93_mXnty3UnWAoIEA";
+
+const HMAC_VERIFIED: &str =
+    r#"{"key":"0000000000000000000000000000000000000000000000000000000000000000000000","labels":{},"mandatory":[0],"statementKey":"0000017119e86ea7c49250b4323939570ffdf65677fd29f6f1e7fddff9979edcb75275","statements":1,"tie":false,"verified":true}"#;
+
+#[test]
+fn verifies_what_another_device_signed(rt: HostRuntime) -> Result<(), Fail> {
+    let alloc = rt.alloc();
+    let issue = ISSUE.replacen(alloc, ISSUER_DIGITS, ZERO_DIGITS, 1)?;
+    let mut issuer = HmacDevice::new(ROOT, SEED);
+    let ended = outcome(alloc, &["issue"], issue.into_bytes(), &mut issuer)?;
+    assert_eq!(rt; ended.0, Status::Done);
+    assert_eq!(rt; ended.1, line(alloc, HMAC_ISSUED)?);
+    let no = r#"{"cause":{"name":"BaseSignature"},"verified":false}"#;
+    for (root, status, reply) in [(ROOT, Status::Done, HMAC_VERIFIED), (SEED, Status::No, no)] {
+        let verify = VERIFY.replacen(alloc, ISSUER_DIGITS, ZERO_DIGITS, 1)?;
+        let verify = verify.replacen(alloc, LEDGER_VALUE, HMAC_VALUE, 1)?;
+        let mut verifier = HmacDevice::new(root, [9; 32]);
+        let ended = outcome(alloc, &["verify"], verify.into_bytes(), &mut verifier)?;
+        assert_eq!(rt; ended.0, status, "at {reply}");
+        assert_eq!(rt; ended.1, line(alloc, reply)?, "at {reply}");
     }
     Ok(())
 }

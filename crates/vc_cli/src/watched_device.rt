@@ -1,7 +1,4 @@
-//! Devices for tests: one that keeps what it was asked, and one that always fails.
-
-ghost use Rattle.std.specs.Prelude.{◌≡◌, ◌≤◌};
-ghost use Rattle.base_types.specs.Counts.{one_more};
+//! A device for tests, which keeps what it was asked.
 
 use key_device::{DeviceError, KeyDevice, KeyName, Signature};
 use nquads::Memory;
@@ -78,67 +75,5 @@ impl<D: KeyDevice> KeyDevice for WatchedDevice<D> {
     fn fresh_secret(&mut self) -> Result<[u8; 32], DeviceError> {
         self.calls.push_str("secret\n")?;
         self.device.fresh_secret()
-    }
-}
-
-/// A device that fails at each call, and counts that.
-#[derive(Drop)]
-pub struct FailingDevice {
-    count: u64,
-}
-
-impl FailingDevice {
-    pub fn new() -> FailingDevice {
-        FailingDevice { count: 0 }
-    }
-
-    fn fail(&mut self) -> DeviceError
-        ensures error { result ≡ DeviceError.Failed }
-        ensures counts { self.new.count ≡ one_more self.old.count }
-        ensures rises { self.old.count ≤ self.new.count }
-    {
-        self.count = self.count.saturating_add(1);
-        DeviceError::Failed
-    }
-}
-
-impl KeyDevice for FailingDevice {
-    ghost use Rattle.std.specs.Prelude.{None, false};
-    ghost use Rattle.std.proofs.lemmas.Bool.{false≢true};
-
-    ghost means = { λ d. record {
-      accepts = λ key bytes signature. false;
-      owns = λ key. false;
-      log = None;
-      next_secret = None;
-      faults = d.count;
-      exact = false;
-    } };
-
-    ghost exact_means = { λ d exact. absurd (false≢true exact) };
-
-    #[tactic(auto, using(vc_session::proofs::OutcomeReplies::means_itself))]
-    fn sign(&mut self, _key: &KeyName, _bytes: &[u8]) -> Result<Signature, DeviceError> {
-        Err(self.fail())
-    }
-
-    #[tactic(auto, using(vc_session::proofs::OutcomeReplies::means_itself))]
-    fn check(
-        &mut self,
-        _key: &KeyName,
-        _bytes: &[u8],
-        _signature: &Signature,
-    ) -> Result<bool, DeviceError> {
-        Err(self.fail())
-    }
-
-    #[tactic(auto, using(vc_session::proofs::OutcomeReplies::means_itself))]
-    fn fresh_key(&mut self) -> Result<KeyName, DeviceError> {
-        Err(self.fail())
-    }
-
-    #[tactic(auto, using(vc_session::proofs::OutcomeReplies::means_itself))]
-    fn fresh_secret(&mut self) -> Result<[u8; 32], DeviceError> {
-        Err(self.fail())
     }
 }

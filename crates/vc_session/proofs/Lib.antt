@@ -1,6 +1,7 @@
 pub mod FlatTexts
 pub mod Looks
 pub mod Putting
+pub mod DigitReadings
 pub mod Tables
 pub mod Parting
 pub mod Printing

@@ -1,10 +1,8 @@
--- Keys as digits, and key tables.
-use Rattle.std.proofs.Common.{◌≡◌, ◌↔◌, Bool, false, IsTrue, Result, ◌<◌, ◌≤◌, ◌+◌, ℕ, zero, suc, List, [], ◌∷◌, ◌++◌, length, get_or, take, Some, None, Ok, Err, refl, sym, ap, ◌∙◌, subst, arith, add-one}
+-- Key tables.
+use Rattle.std.proofs.Common.{◌≡◌, ◌<◌, ◌≤◌, ◌+◌, ℕ, zero, suc, List, [], ◌∷◌, ◌++◌, length, get_or, take, Some, None, refl, sym, ap, ◌∙◌, subst, arith, add-one}
 use Rattle.std.specs.List.{AllZip}
 use Rattle.std.proofs.Math.Seq.{take-suc}
-use Rattle.hex.specs.declared.error.FromHexError.{FromHexError}
-use Rattle.hex.specs.Hex.{decode_sized, encode_lower}
-use Rattle.hex.proofs.HexLemmas.{decode_of-ok, decode_sized-encode_lower, decode_sized-ok, decode_sized-twice}
+use Rattle.hex.specs.Hex.{encode_lower}
 use Rattle.json_tree.specs.declared.tree.Tree.{Tree}
 use Rattle.json_tree.specs.declared.tree.Tree.TheVariants as v
 use Rattle.json_tree.specs.declared.tree.Member.{Member}
@@ -14,37 +12,12 @@ use Rattle.key_device.specs.declared.table.KeyEntry.{KeyEntry}
 use Rattle.ld_rdf.specs.declared.fault.FlatFault.{FlatFault}
 use Rattle.ld_rdf.specs.declared.fault.FlatFault.TheVariants.{NotBuilt}
 use Rattle.vc_session.specs.Requests.{IsKeyEntry, IsKeyTable}
-use Rattle.vc_session.specs.Internal.RequestMembers.{AreDigits}
-
--- ---- digits
-
--- the digits of bytes are decoded to them
-pub digits_read : (digits bytes : List ℕ) → AreDigits digits bytes → decode_sized digits 35 ≡ Ok bytes
-digits_read digits bytes d = ap (λ (s : List ℕ). decode_sized s 35) d.are ∙ decode_sized-encode_lower bytes 35 d.long d.each_a_byte
-
--- what is not decoded is the digits of no bytes
-pub no_digits : (digits : List ℕ) (r : Result (List ℕ) FromHexError) (e : FromHexError) → r ≡ decode_sized digits 35 → r ≡ Err e → (bytes : List ℕ) → AreDigits digits bytes → ⊥
-no_digits digits r e is h = λ bytes d. let read = digits_read digits bytes d in absurd (cc)
-
--- digits that are not in lower case are the digits of no bytes
-pub other_digits : (digits bytes : List ℕ) (r : Result (List ℕ) FromHexError) (b : Bool) → r ≡ decode_sized digits 35 → r ≡ Ok bytes → IsTrue b ↔ (digits ≡ encode_lower bytes) → b ≡ false → (others : List ℕ) → AreDigits digits others → ⊥
-other_digits digits bytes r b is h written unlike = λ others d.
-    let read = digits_read digits others d in
-    let same : others ≡ bytes = cc in
-    let holds : IsTrue b = written.1 (d.are ∙ ap encode_lower same) in
-    absurd (cc)
-
--- what is decoded and written again alike is the digits of the bytes
-pub are_digits : (digits bytes : List ℕ) → decode_sized digits 35 ≡ Ok bytes → digits ≡ encode_lower bytes → AreDigits digits bytes
-are_digits digits bytes h e =
-    let long = decode_sized-ok digits 35 bytes h in
-    let read = decode_of-ok digits bytes (sym (decode_sized-twice digits 35 long) ∙ h) in
-    record { are = e; long = omega (arith, long, read.2); each_a_byte = read.3 }
+use Rattle.vc_session.specs.HexDigits.{AreDigits}
 
 -- ---- an entry
 
 -- a member with the digits of a key is that entry of the table
-pub entry_from : (m : Member Tree) (e : KeyEntry) (digits : List ℕ) → text_of m.value ≡ Some digits → AreDigits digits e.key.bytes → m.key ≡ e.method → IsKeyEntry m e
+pub entry_from : (m : Member Tree) (e : KeyEntry) (digits : List ℕ) → text_of m.value ≡ Some digits → AreDigits 35 digits e.key.bytes → m.key ≡ e.method → IsKeyEntry m e
 entry_from m e digits is d named = record { method = named; digits = text_of-Some m.value digits is ∙ ap v.Text d.are; long = d.long; bytes = d.each_a_byte }
 
 entry_text : (m : Member Tree) (e : KeyEntry) → IsKeyEntry m e → text_of m.value ≡ Some (encode_lower e.key.bytes)
@@ -55,7 +28,7 @@ pub no_text : (m : Member Tree) → text_of m.value ≡ None → (e : KeyEntry) 
 no_text m none = λ e i. let there = entry_text m e i in absurd (cc)
 
 -- a member without the digits of a key is no entry
-pub no_key : (m : Member Tree) (digits : List ℕ) → text_of m.value ≡ Some digits → ((bytes : List ℕ) → AreDigits digits bytes → ⊥) → (e : KeyEntry) → IsKeyEntry m e → ⊥
+pub no_key : (m : Member Tree) (digits : List ℕ) → text_of m.value ≡ Some digits → ((bytes : List ℕ) → AreDigits 35 digits bytes → ⊥) → (e : KeyEntry) → IsKeyEntry m e → ⊥
 no_key m digits is never = λ e i.
     let there = entry_text m e i in
     let same : digits ≡ encode_lower e.key.bytes = cc in
@@ -115,8 +88,6 @@ pub table_end : (keys : Tree) (ms : List (Member Tree)) (made table : List KeyEn
 table_end keys ms made table i is h le same =
     let all : AllZip IsKeyEntry ms made = subst (λ (l : List (Member Tree)). AllZip IsKeyEntry l made) (take_whole ms i (λ l. absurd (omega (arith, l, le)))) h in
     table_from keys ms table is (subst (λ (t : List KeyEntry). AllZip IsKeyEntry ms t) (sym same) all)
-
-pub ruleset readings = (no_digits, other_digits, are_digits)
 
 pub ruleset entries = (entry_from, no_text, no_key)
 

@@ -1,5 +1,6 @@
 pub mod Replies
 pub mod ReplyTrees
+pub mod HexDigits
 pub mod Requests
 pub mod Issuing
 pub mod Verifying

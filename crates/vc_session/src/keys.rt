@@ -3,7 +3,7 @@
 ghost use Rattle.std.specs.Prelude.{◌≡◌, ◌↔◌, List, ℕ, IfOk, IfSome, IsErrOf, IsNone, IsTrue};
 ghost use Rattle.hex.specs.Hex.{encode_lower};
 ghost use Rattle.key_device.specs.declared.table.KeyEntry.{KeyEntry as AnyEntry};
-ghost use Rattle.vc_session.specs.Internal.RequestMembers.{AreDigits};
+ghost use Rattle.vc_session.specs.HexDigits.{AreDigits};
 ghost use Rattle.vc_session.specs.Requests.{IsKeyEntry, IsKeyTable};
 
 use hex::FromHex;
@@ -14,10 +14,10 @@ use nquads::{Sequence, Text};
 use std::alloc::Global;
 
 /// The key with these 70 lower-case hexadecimal digits. It takes no memory.
-#[tactic(auto, using(crate::proofs::Tables::readings))]
+#[tactic(auto, using(crate::proofs::DigitReadings::readings))]
 fn key_of(digits: &str) -> Option<KeyName>
-    ensures some { IfSome result (λ key. AreDigits digits.now key.bytes) }
-    ensures none { IsNone result → (bytes : List ℕ) → AreDigits digits.now bytes → ⊥ }
+    ensures some { IfSome result (λ key. AreDigits 35 digits.now key.bytes) }
+    ensures none { IsNone result → (bytes : List ℕ) → AreDigits 35 digits.now bytes → ⊥ }
 {
     match <[u8; 35] as FromHex>::from_hex(digits) {
         Ok(bytes) => {

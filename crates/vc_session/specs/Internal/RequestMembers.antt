@@ -1,8 +1,7 @@
 -- The parts of requests as their members give them, for the functions that take requests apart.
-use Rattle.std.specs.Prelude.{◌≡◌, false, ℕ, List, [], ◌∷◌, Bool, ◌&&◌, map, All, length, is_none, is_some, Option, Some, None, option_map, option_and_then, codes}
+use Rattle.std.specs.Prelude.{◌≡◌, false, ℕ, List, [], ◌∷◌, Bool, ◌&&◌, map, All, is_none, is_some, Option, Some, None, option_map, option_and_then, codes}
 use Rattle.std.specs.Option.{option_map_or}
 use Rattle.std.specs.Str.{bytes_eq}
-use Rattle.hex.specs.Hex.{IsBytes, encode_lower}
 use Rattle.json_tree.specs.declared.tree.Tree.{Tree}
 use Rattle.json_tree.specs.declared.tree.Member.{Member}
 use Rattle.json_tree.specs.Places.{look, members_of, text_of}
@@ -86,12 +85,6 @@ proof_parts d =
     (method_in proof))
     (text_under at_context d))
     (look (at proof_name) d)
-
--- these are 70 lower-case hexadecimal digits, of these bytes
-pub record AreDigits (digits bytes : List ℕ) : Type 0 where
-  pub are : digits ≡ encode_lower bytes
-  pub long : length bytes ≡ 35
-  pub each_a_byte : IsBytes bytes
 
 -- what was read of a request for issuing, beside its document and its options
 pub record IsIssueRead (r : Tree) (t : IssueRead) : Type 0 where
