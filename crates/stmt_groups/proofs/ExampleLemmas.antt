@@ -48,14 +48,16 @@ value_of (iri text) = text
 value_of (literal text datatype language) = []
 value_of (blank b) = []
 
-differ : (x y : List ℕ) → bytes_eq x y ≡ false → statement x ≡ statement y → ⊥
+-- statements with two values differ
+pub differ : (x y : List ℕ) → bytes_eq x y ≡ false → statement x ≡ statement y → ⊥
 differ x y p e = bytes_eq-differ x y p (ap (λ (s : Statement). value_of s.object) e)
 
--- one value, or one of two or three
-only : {X : Type 0} (a x : X) → Contains (a ∷ []) x → a ≡ x
+-- what stands in a list of one
+pub only : {X : Type 0} (a x : X) → Contains (a ∷ []) x → a ≡ x
 only a x c = elim (Contains-cons_cases a [] x c) [ inl e ↦ e | inr d ↦ absurd (Contains-nil x d) ]
 
-one_of_two : {X : Type 0} (a b x : X) → Contains (a ∷ b ∷ []) x → (a ≡ x) ⊎ (b ≡ x)
+-- what stands in a list of two
+pub one_of_two : {X : Type 0} (a b x : X) → Contains (a ∷ b ∷ []) x → (a ≡ x) ⊎ (b ≡ x)
 one_of_two a b x c = elim (Contains-cons_cases a (b ∷ []) x c) [ inl e ↦ inl e | inr d ↦ inr (only b x d) ]
 
 no_blank : (values : List (List ℕ)) (b : Blank) (s : Statement) → Contains (map statement values) s → Contains (blanks_of s) b → ⊥

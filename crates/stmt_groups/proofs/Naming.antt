@@ -44,7 +44,7 @@ base_key history v o =
     (sign_data_parts o.by.options (dataset_lines v.options) o.by.key v.proof.key o.by.mandatory (mandatory_lines v) o.signs).1
 
 -- of two lists that are paired, each element of the first has a partner
-partner : {X Y : Type 0} (R : X → Y → Type 0) (xs : List X) (ys : List Y) (x : X) → AllZip R xs ys → Contains xs x → (y : Y) × R x y
+pub partner : {X Y : Type 0} (R : X → Y → Type 0) (xs : List X) (ys : List Y) (x : X) → AllZip R xs ys → Contains xs x → (y : Y) × R x y
 partner R [] ys x z c = absurd (Contains-nil x c)
 partner R (a ∷ xs) [] x z c = absurd z
 partner R (a ∷ xs) (b ∷ ys) x z c = elim (Contains-cons_cases a xs x c) [

@@ -5,3 +5,9 @@ pub mod Proofs
 pub mod Soundness
 pub mod Premises
 pub mod Example
+pub mod Parts
+pub mod Groups
+pub mod ByHash
+pub mod LabelMaps
+pub mod Issues
+pub mod Internal

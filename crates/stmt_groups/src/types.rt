@@ -1,6 +1,7 @@
 //! Records of base proofs, and why a document, a dataset or a pointer is refused.
 
 use base_types::{Sequence, Text};
+use digest_mac::Hash;
 use key_device::KeyName;
 use std::fmt;
 
@@ -84,11 +85,12 @@ impl fmt::Display for Cause {
     }
 }
 
-/// What was signed with one base proof: the issuer's key, the statement key, and the canonical
-/// lines of the proof options, of the mandatory statements and of the others, each in code-point
-/// order.
+/// What was signed with one base proof: the hash, the issuer's key, the statement key, and the
+/// canonical lines of the proof options, of the mandatory statements and of the others, each in
+/// code-point order.
 #[derive(Debug, Drop, PartialEq, Eq)]
 pub struct BaseRecord {
+    pub hash: Hash,
     pub issuer: KeyName,
     pub key: KeyName,
     pub options: Sequence<Text>,

@@ -20,6 +20,7 @@ ghost use Rattle.vc_session.specs.Internal.Tasks.{IsIssueTask};
 use crate::draft::{Draft, draft_of};
 use crate::lines::{self, lines_of};
 use crate::tasks::IssueTask;
+use digest_mac::Hash;
 use json_tree::Tree;
 use key_device::{DeviceError, KeyDevice, KeyName};
 use nquads::{Memory, Sequence, Text, TextQuads};
@@ -200,6 +201,7 @@ fn record(
     let mandatory = lines_of(alloc, quads)?;
     let options = lines_of(alloc, option_quads)?;
     Ok(BaseRecord {
+        hash: Hash::Sha256,
         issuer,
         key,
         options,
