@@ -1,7 +1,7 @@
 //! Requests and the statements that their documents mean, by hand from JSON-LD 1.1.
 use json_tree::{TreeFault, read};
 use ld_rdf::{FlatFault, Text, flat, flat_document, flat_lines, flat_options};
-use nquads::{TextQuads, join};
+use nquads::{TextQuad, TextQuads, join};
 use std::alloc::Global;
 use std::test::Fail;
 
@@ -44,33 +44,54 @@ const NOT_FLAT: [&[u8]; 24] = [
     br#"{"contexts":{"c":{"@context":{"n":"https://e/n"}}},"document":{"@context":"c","@id":"https://e/a","n":"x\uffff"}}"#,
 ];
 
+/// The statements of a request.
+fn quads_of(alloc: Global, request: &[u8]) -> Result<TextQuads, Fail> {
+    Ok(flat(alloc, &read(alloc, request)?)?)
+}
+
+/// Whether these are the one statement of the first request.
+fn are_ann(quads: &[TextQuad]) -> bool {
+    match quads {
+        [quad] => {
+            quad.subject.as_str() == "<https://ex.org/a>"
+                && quad.predicate.as_str() == "<https://schema.org/name>"
+                && quad.object.as_str() == "\"Ann\""
+                && quad.graph.is_none()
+        }
+        _ => false,
+    }
+}
+
 #[test]
 fn a_property_is_one_statement(rt: HostRuntime) -> Result<(), Fail> {
-    let quads = flat(rt.alloc(), &read(rt.alloc(), ANN)?)?;
-    match quads.as_slice() {
-        [quad] => {
-            assert_eq!(rt; quad.subject.as_str(), "<https://ex.org/a>");
-            assert_eq!(rt; quad.predicate.as_str(), "<https://schema.org/name>");
-            assert_eq!(rt; quad.object.as_str(), "\"Ann\"");
-            assert!(rt; quad.graph.is_none());
-        }
-        _ => assert!(rt; false, "one statement"),
-    }
-    assert_eq!(rt; flat(rt.alloc(), &read(rt.alloc(), REPEATED)?)?.len(), 1);
-    assert_eq!(rt; flat(rt.alloc(), &read(rt.alloc(), EMPTY)?)?.len(), 0);
+    assert!(rt; are_ann(quads_of(rt.alloc(), ANN)?.as_slice()));
+    assert_eq!(rt; quads_of(rt.alloc(), REPEATED)?.len(), 1);
+    assert_eq!(rt; quads_of(rt.alloc(), EMPTY)?.len(), 0);
     Ok(())
+}
+
+/// Whether neither the statements nor the lines of a request are built, since it is not flat.
+fn is_not_built(alloc: Global, request: &[u8]) -> Result<bool, TreeFault> {
+    let tree = read(alloc, request)?;
+    Ok(
+        flat(alloc, &tree).err() == Some(FlatFault::NotBuilt)
+            && flat_lines(alloc, &tree).err() == Some(FlatFault::NotBuilt),
+    )
+}
+
+/// The first of the requests that are not flat that is built, if there is one.
+fn first_built(alloc: Global) -> Result<Option<usize>, TreeFault> {
+    for (number, request) in NOT_FLAT.iter().enumerate() {
+        if !is_not_built(alloc, request)? {
+            return Ok(Some(number));
+        }
+    }
+    Ok(None)
 }
 
 #[test]
 fn a_request_that_is_not_flat_is_not_built(rt: HostRuntime) -> Result<(), Fail> {
-    for bytes in NOT_FLAT {
-        let tree = read(rt.alloc(), bytes)?;
-        assert_eq!(rt; flat(rt.alloc(), &tree).err(), Some(FlatFault::NotBuilt));
-        assert_eq!(rt;
-            flat_lines(rt.alloc(), &tree).err(),
-            Some(FlatFault::NotBuilt)
-        );
-    }
+    assert_eq!(rt; first_built(rt.alloc())?, None);
     Ok(())
 }
 
@@ -95,13 +116,25 @@ const LINES: [(&[u8], &str); 4] = [
     ),
 ];
 
+/// The lines of a request, one after another.
+fn lines_of(alloc: Global, request: &[u8]) -> Result<Vec<u8>, Fail> {
+    let lines = flat_lines(alloc, &read(alloc, request)?)?;
+    Ok(join(alloc, lines.as_slice())?)
+}
+
+/// The first request that has other lines, if there is one.
+fn first_with_other_lines(alloc: Global) -> Result<Option<usize>, Fail> {
+    for (number, (request, text)) in LINES.iter().enumerate() {
+        if lines_of(alloc, request)?.as_slice() != text.as_bytes() {
+            return Ok(Some(number));
+        }
+    }
+    Ok(None)
+}
+
 #[test]
 fn lines_stand_in_order_each_once(rt: HostRuntime) -> Result<(), Fail> {
-    for (request, text) in LINES {
-        let lines = flat_lines(rt.alloc(), &read(rt.alloc(), request)?)?;
-        let joined = join(rt.alloc(), lines.as_slice())?;
-        assert_eq!(rt; joined.as_slice(), text.as_bytes());
-    }
+    assert_eq!(rt; first_with_other_lines(rt.alloc())?, None);
     Ok(())
 }
 
@@ -251,32 +284,51 @@ fn options_are(
     ))
 }
 
+/// The first document that has another number of statements, if there is one.
+fn first_wrong_document(alloc: Global) -> Result<Option<usize>, TreeFault> {
+    for (number, (bytes, besides, expected)) in DOCUMENTS.iter().enumerate() {
+        if !document_is(alloc, bytes, besides, *expected)? {
+            return Ok(Some(number));
+        }
+    }
+    Ok(None)
+}
+
+/// The first options that have another number of statements, if there are any.
+fn first_wrong_options(alloc: Global) -> Result<Option<usize>, TreeFault> {
+    for (number, (bytes, name, besides, expected)) in OPTIONS.iter().enumerate() {
+        if !options_are(alloc, bytes, name, besides, *expected)? {
+            return Ok(Some(number));
+        }
+    }
+    Ok(None)
+}
+
 #[test]
 fn a_document_is_read_without_a_member(rt: HostRuntime) -> Result<(), Fail> {
-    for (bytes, besides, expected) in DOCUMENTS {
-        assert!(rt; document_is(rt.alloc(), bytes, besides, expected)?);
-    }
+    assert_eq!(rt; first_wrong_document(rt.alloc())?, None);
     Ok(())
 }
 
 #[test]
 fn options_take_the_given_context(rt: HostRuntime) -> Result<(), Fail> {
-    for (bytes, name, besides, expected) in OPTIONS {
-        assert!(rt; options_are(rt.alloc(), bytes, name, besides, expected)?);
-    }
+    assert_eq!(rt; first_wrong_options(rt.alloc())?, None);
     Ok(())
+}
+
+/// What a fault says.
+fn said(alloc: Global, fault: FlatFault) -> Result<String, Fail> {
+    Ok(format!(in alloc; "{fault}")?)
 }
 
 #[test]
 fn faults_say_why(rt: HostRuntime) -> Result<(), Fail> {
-    let not_built = FlatFault::NotBuilt;
     assert_eq!(rt;
-        format!(in rt.alloc(); "{not_built}")?.as_str(),
+        said(rt.alloc(), FlatFault::NotBuilt)?.as_str(),
         "the request is not flat"
     );
-    let memory = FlatFault::Memory;
     assert_eq!(rt;
-        format!(in rt.alloc(); "{memory}")?.as_str(),
+        said(rt.alloc(), FlatFault::Memory)?.as_str(),
         "out of memory"
     );
     Ok(())

@@ -149,15 +149,27 @@ fn texts_of(alloc: Global, bytes: &[u8]) -> Result<Text, NqFault> {
     Ok(out)
 }
 
-#[test]
-fn statements_are_read(rt: HostRuntime) -> Result<(), Memory> {
+/// The name of the first text that is read otherwise, or nothing.
+fn first_misread(alloc: Global) -> &'static str {
     for row in &ACCEPTED {
-        match texts_of(rt.alloc(), row.text.as_bytes()) {
-            Ok(got) => assert_eq!(rt; got.as_str(), row.want, "{}", row.name),
-            Err(fault) => assert!(rt; false, "{}: {fault}", row.name),
+        if !is_read_as(alloc, row.text, row.want) {
+            return row.name;
         }
     }
-    Ok(())
+    ""
+}
+
+/// Whether these are the texts of what is read.
+fn is_read_as(alloc: Global, text: &str, want: &str) -> bool {
+    match texts_of(alloc, text.as_bytes()) {
+        Ok(got) => got.as_str() == want,
+        Err(_) => false,
+    }
+}
+
+#[test]
+fn statements_are_read(rt: HostRuntime) {
+    assert_eq!(rt; first_misread(rt.alloc()), "");
 }
 
 /// A text that is refused, and the byte where its first bad line begins.
@@ -333,39 +345,27 @@ const LINES_REFUSED: [Refused; 14] = [
     },
 ];
 
-#[test]
-fn terms_are_refused(rt: HostRuntime) -> Result<(), Memory> {
-    for row in &TERMS_REFUSED {
-        let got = texts_of(rt.alloc(), row.text.as_bytes());
-        assert!(rt;
-            matches!(got, Err(NqFault::At(at)) if at == row.at),
-            "{}",
-            row.name
-        );
+/// Whether the text is refused at this byte.
+fn is_refused_at(alloc: Global, bytes: &[u8], at: u64) -> bool {
+    texts_of(alloc, bytes).err() == Some(NqFault::At(at))
+}
+
+/// The name of the first text that is not refused at its byte, or nothing.
+fn first_not_refused(alloc: Global, rows: &[Refused]) -> &'static str {
+    for row in rows {
+        if !is_refused_at(alloc, row.text.as_bytes(), row.at) {
+            return row.name;
+        }
     }
-    Ok(())
+    ""
 }
 
 #[test]
-fn lines_are_refused(rt: HostRuntime) -> Result<(), Memory> {
-    for row in &LINES_REFUSED {
-        let got = texts_of(rt.alloc(), row.text.as_bytes());
-        assert!(rt;
-            matches!(got, Err(NqFault::At(at)) if at == row.at),
-            "{}",
-            row.name
-        );
-    }
-    Ok(())
-}
-
-#[test]
-fn bytes_that_are_no_text_are_refused(rt: HostRuntime) -> Result<(), Memory> {
-    let got = texts_of(rt.alloc(), b"_:a <http://e/p> \"\xff\" .\n");
-    assert!(rt; matches!(got, Err(NqFault::At(0))));
-    let got = texts_of(rt.alloc(), b"\n# \xff\n");
-    assert!(rt; matches!(got, Err(NqFault::At(1))));
-    Ok(())
+fn what_is_no_line_is_refused(rt: HostRuntime) {
+    assert_eq!(rt; first_not_refused(rt.alloc(), &TERMS_REFUSED), "");
+    assert_eq!(rt; first_not_refused(rt.alloc(), &LINES_REFUSED), "");
+    assert!(rt; is_refused_at(rt.alloc(), b"_:a <http://e/p> \"\xff\" .\n", 0));
+    assert!(rt; is_refused_at(rt.alloc(), b"\n# \xff\n", 1));
 }
 
 /// A text of so many different statements, each twice.
@@ -380,13 +380,19 @@ fn many_statements(alloc: Global, count: u32) -> Result<Text, Fail> {
     Ok(out)
 }
 
+/// Why so many different statements are not read, if they are not.
+fn statements_fault(alloc: Global, count: u32) -> Result<Option<NqFault>, Fail> {
+    let text = many_statements(alloc, count)?;
+    Ok(texts_of(alloc, text.as_bytes()).err())
+}
+
 #[test]
 fn statements_are_counted_once(rt: HostRuntime) -> Result<(), Fail> {
-    let text = many_statements(rt.alloc(), 20_000)?;
-    assert!(rt; texts_of(rt.alloc(), text.as_bytes()).is_ok());
-    let text = many_statements(rt.alloc(), 20_001)?;
-    let got = texts_of(rt.alloc(), text.as_bytes());
-    assert!(rt; matches!(got, Err(NqFault::TooManyStatements(20_000))));
+    assert_eq!(rt; statements_fault(rt.alloc(), 20_000)?, None);
+    assert_eq!(rt;
+        statements_fault(rt.alloc(), 20_001)?,
+        Some(NqFault::TooManyStatements(20_000))
+    );
     Ok(())
 }
 
@@ -400,12 +406,18 @@ fn many_blanks(alloc: Global, count: u32) -> Result<Text, Fail> {
     Ok(out)
 }
 
+/// Why statements that mention so many blank nodes are not read, if they are not.
+fn blanks_fault(alloc: Global, count: u32) -> Result<Option<NqFault>, Fail> {
+    let text = many_blanks(alloc, count)?;
+    Ok(texts_of(alloc, text.as_bytes()).err())
+}
+
 #[test]
 fn blank_nodes_are_counted_once(rt: HostRuntime) -> Result<(), Fail> {
-    let text = many_blanks(rt.alloc(), 4_096)?;
-    assert!(rt; texts_of(rt.alloc(), text.as_bytes()).is_ok());
-    let text = many_blanks(rt.alloc(), 4_097)?;
-    let got = texts_of(rt.alloc(), text.as_bytes());
-    assert!(rt; matches!(got, Err(NqFault::TooManyBlanks(4_096))));
+    assert_eq!(rt; blanks_fault(rt.alloc(), 4_096)?, None);
+    assert_eq!(rt;
+        blanks_fault(rt.alloc(), 4_097)?,
+        Some(NqFault::TooManyBlanks(4_096))
+    );
     Ok(())
 }

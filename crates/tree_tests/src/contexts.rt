@@ -86,15 +86,28 @@ const WITH_BASE: [(&str, Mode, &str); 6] = [
     ("a b", Mode::Both, "relative a b"),
 ];
 
+/// What a row says that a term maps to.
+fn mapped_by(alloc: Global, text: &str) -> Result<Mapped, Fail> {
+    if text.is_empty() {
+        return Ok(Mapped::Nothing);
+    }
+    match keyword(text) {
+        Some(word) => Ok(Mapped::Word(word)),
+        None => Ok(Mapped::Iri(Text::from_str(alloc, text)?)),
+    }
+}
+
 /// The definitions with this term laid over them.
 fn with_term(
     alloc: Global,
     terms: &Definitions,
     term: &str,
-    mapped: Mapped,
+    mapped: &str,
     prefix: bool,
     protected: bool,
 ) -> Result<Definitions, Fail> {
+    let term = Text::from_str(alloc, term)?;
+    let mapped = mapped_by(alloc, mapped)?;
     let def = TermDef {
         mapped,
         prefix,
@@ -117,22 +130,16 @@ fn with_term(
         index: None,
     };
     let mut more = Sequence::new(alloc);
-    more.push(TermEntry {
-        term: Text::from_str(alloc, term)?,
-        def,
-    })?;
+    more.push(TermEntry { term, def })?;
     Ok(terms.overlay(alloc, more)?)
 }
 
-/// What a row says that a term maps to.
-fn mapped_by(alloc: Global, text: &str) -> Result<Mapped, Fail> {
+/// The text, if it is not empty.
+fn text_or_none(alloc: Global, text: &str) -> Result<Option<Text>, Fail> {
     if text.is_empty() {
-        return Ok(Mapped::Nothing);
+        return Ok(None);
     }
-    match keyword(text) {
-        Some(word) => Ok(Mapped::Word(word)),
-        None => Ok(Mapped::Iri(Text::from_str(alloc, text)?)),
-    }
+    Ok(Some(Text::from_str(alloc, text)?))
 }
 
 /// A context with these definitions, a base and a vocabulary, where these are not empty.
@@ -142,19 +149,18 @@ fn context_with(
     vocab: &str,
     terms: Definitions,
 ) -> Result<ActiveContext, Fail> {
+    let base = BaseIri::new(Text::from_str(alloc, base)?);
+    let vocab = text_or_none(alloc, vocab)?;
     let parts = ContextParts {
-        base: BaseIri::new(Text::from_str(alloc, base)?),
-        vocab: if vocab.is_empty() {
-            None
-        } else {
-            Some(Text::from_str(alloc, vocab)?)
-        },
+        base,
+        vocab,
         language: None,
         direction: None,
         terms,
     };
+    let current = Shared::new(alloc, parts)?;
     Ok(ActiveContext {
-        current: Shared::new(alloc, parts)?,
+        current,
         previous: Sequence::new(alloc),
     })
 }
@@ -188,30 +194,28 @@ fn first_wrong(
 /// The definitions of `TERMS`.
 fn terms_of_rows(alloc: Global) -> Result<Definitions, Fail> {
     let mut terms = Definitions::new(alloc)?;
-    for (term, mapped, prefix) in TERMS {
-        terms = with_term(
-            alloc,
-            &terms,
-            term,
-            mapped_by(alloc, mapped)?,
-            prefix,
-            false,
-        )?;
+    for (term, mapped, prefix) in &TERMS {
+        terms = with_term(alloc, &terms, term, mapped, *prefix, false)?;
     }
     Ok(terms)
 }
 
-#[test]
-fn texts_read_by_the_first_row_that_applies(rt: HostRuntime) -> Result<(), Fail> {
-    let active = context_with(rt.alloc(), BASE, V, terms_of_rows(rt.alloc())?)?;
-    assert_eq!(rt; first_wrong(rt.alloc(), &active, &READINGS)?, None);
-    Ok(())
+/// The first row of `READINGS` that reads otherwise.
+fn first_wrong_reading(alloc: Global) -> Result<Option<usize>, Fail> {
+    let active = context_with(alloc, BASE, V, terms_of_rows(alloc)?)?;
+    first_wrong(alloc, &active, &READINGS)
+}
+
+/// The first row of `WITH_BASE` that reads otherwise.
+fn first_wrong_with_base(alloc: Global) -> Result<Option<usize>, Fail> {
+    let active = context_with(alloc, BASE, "", Definitions::new(alloc)?)?;
+    first_wrong(alloc, &active, &WITH_BASE)
 }
 
 #[test]
-fn a_base_and_no_terms(rt: HostRuntime) -> Result<(), Fail> {
-    let active = context_with(rt.alloc(), BASE, "", Definitions::new(rt.alloc())?)?;
-    assert_eq!(rt; first_wrong(rt.alloc(), &active, &WITH_BASE)?, None);
+fn texts_read_by_the_first_row_that_applies(rt: HostRuntime) -> Result<(), Fail> {
+    assert_eq!(rt; first_wrong_reading(rt.alloc())?, None);
+    assert_eq!(rt; first_wrong_with_base(rt.alloc())?, None);
     Ok(())
 }
 
@@ -236,8 +240,8 @@ const LETTERS: [&str; 26] = [
 /// These definitions with each letter laid over them.
 fn with_letters(alloc: Global, terms: &Definitions, text: &str) -> Result<Definitions, Fail> {
     let mut whole = terms.share()?;
-    for letter in LETTERS {
-        whole = with_term(alloc, &whole, letter, mapped_by(alloc, text)?, false, false)?;
+    for letter in &LETTERS {
+        whole = with_term(alloc, &whole, letter, text, false, false)?;
     }
     Ok(whole)
 }
@@ -249,33 +253,45 @@ fn twice(alloc: Global) -> Result<ActiveContext, Fail> {
     context_with(alloc, "", "", second)
 }
 
+/// The first letter that has another meaning than the later one, or what `aa` means.
+fn first_with_another_meaning(alloc: Global) -> Result<&'static str, Fail> {
+    let active = twice(alloc)?;
+    for letter in &LETTERS {
+        if meaning(&active, letter) != "urn:second" {
+            return Ok(letter);
+        }
+    }
+    if meaning(&active, "aa") != "none" {
+        return Ok("aa");
+    }
+    Ok("")
+}
+
 #[test]
 fn the_later_definition_counts(rt: HostRuntime) -> Result<(), Fail> {
-    let active = twice(rt.alloc())?;
-    for letter in LETTERS {
-        assert_eq!(rt; meaning(&active, letter), "urn:second", "at {letter}");
-    }
-    assert_eq!(rt; meaning(&active, "aa"), "none");
+    assert_eq!(rt; first_with_another_meaning(rt.alloc())?, "");
     Ok(())
 }
 
 /// A context that defines a letter, and then defines it again, with these protected flags.
 fn guarded(alloc: Global, first: bool, second: bool) -> Result<ActiveContext, Fail> {
     let letters = with_letters(alloc, &Definitions::new(alloc)?, "urn:first")?;
-    let once = with_term(alloc, &letters, "g", Mapped::Nothing, false, first)?;
-    context_with(
-        alloc,
-        "",
-        "",
-        with_term(alloc, &once, "g", Mapped::Nothing, false, second)?,
-    )
+    let once = with_term(alloc, &letters, "g", "", false, first)?;
+    let again = with_term(alloc, &once, "g", "", false, second)?;
+    context_with(alloc, "", "", again)
+}
+
+/// Whether such a context protects a term.
+fn protects(alloc: Global, first: bool, second: bool) -> Result<bool, Fail> {
+    Ok(guarded(alloc, first, second)?.has_protected())
 }
 
 #[test]
 fn a_protected_term_counts_until_it_is_hidden(rt: HostRuntime) -> Result<(), Fail> {
-    for (first, second) in [(false, false), (true, false), (false, true), (true, true)] {
-        assert_eq!(rt; guarded(rt.alloc(), first, second)?.has_protected(), second);
-    }
+    assert!(rt; !protects(rt.alloc(), false, false)?);
+    assert!(rt; !protects(rt.alloc(), true, false)?);
+    assert!(rt; protects(rt.alloc(), false, true)?);
+    assert!(rt; protects(rt.alloc(), true, true)?);
     Ok(())
 }
 
@@ -287,8 +303,9 @@ fn deepened(
     propagate: bool,
 ) -> Result<ActiveContext, Fail> {
     let none = Definitions::new(alloc)?;
-    let terms = with_term(alloc, &none, "a", mapped_by(alloc, name)?, false, false)?;
-    Ok(context_with(alloc, "", "", terms)?.remember(before, propagate)?)
+    let terms = with_term(alloc, &none, "a", name, false, false)?;
+    let context = context_with(alloc, "", "", terms)?;
+    Ok(context.remember(before, propagate)?)
 }
 
 /// What `a` maps to so many steps back from the third of three contexts; the second and the third
@@ -303,19 +320,29 @@ fn steps_back(alloc: Global, second: bool, third: bool, steps: usize) -> Result<
     Ok(String::from_str(alloc, meaning(&here, "a"))?)
 }
 
+/// Whether the second and the third context propagate, the steps back, and what `a` maps to there.
+const STEPS_BACK: [(bool, bool, usize, &str); 7] = [
+    (false, false, 0, "urn:three"),
+    (false, false, 1, "urn:two"),
+    (false, false, 2, "urn:one"),
+    (false, false, 3, "urn:one"),
+    (true, false, 1, "urn:two"),
+    (true, false, 2, "urn:two"),
+    (true, true, 1, "urn:three"),
+];
+
+/// The first of these rows where `a` maps to something else, if there is one.
+fn first_wrong_step(alloc: Global) -> Result<Option<usize>, Fail> {
+    for (number, (second, third, steps, want)) in STEPS_BACK.iter().enumerate() {
+        if steps_back(alloc, *second, *third, *steps)?.as_str() != *want {
+            return Ok(Some(number));
+        }
+    }
+    Ok(None)
+}
+
 #[test]
 fn contexts_that_do_not_propagate_return(rt: HostRuntime) -> Result<(), Fail> {
-    for (second, third, steps, want) in [
-        (false, false, 0, "urn:three"),
-        (false, false, 1, "urn:two"),
-        (false, false, 2, "urn:one"),
-        (false, false, 3, "urn:one"),
-        (true, false, 1, "urn:two"),
-        (true, false, 2, "urn:two"),
-        (true, true, 1, "urn:three"),
-    ] {
-        let shown = steps_back(rt.alloc(), second, third, steps)?;
-        assert_eq!(rt; shown.as_str(), want, "at {steps}");
-    }
+    assert_eq!(rt; first_wrong_step(rt.alloc())?, None);
     Ok(())
 }

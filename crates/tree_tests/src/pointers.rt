@@ -1,5 +1,5 @@
 //! Pointers of RFC 6901, section 5, and parts of documents worked by hand.
-use json_tree::{print, read};
+use json_tree::{Tree, print, read};
 use pointer_select::{Pointer, PointerFault, SelectFault, select};
 use std::alloc::Global;
 use std::test::Fail;
@@ -156,16 +156,30 @@ fn outcome(alloc: Global, document: &str, texts: &[&str]) -> Result<Vec<u8>, Fai
     }
 }
 
+/// The first of the examples that selects another part, if there is one.
+fn first_wrong_example(alloc: Global) -> Result<Option<&'static str>, Fail> {
+    for (pointer, expected) in &EXAMPLES {
+        if outcome(alloc, RFC, &[*pointer])?.as_slice() != expected.as_bytes() {
+            return Ok(Some(pointer));
+        }
+    }
+    Ok(None)
+}
+
+/// The first of the rows of parts that has another outcome, if there is one.
+fn first_wrong_part(alloc: Global) -> Result<Option<usize>, Fail> {
+    for (number, (document, pointers, expected)) in PARTS.iter().enumerate() {
+        if outcome(alloc, document, pointers)?.as_slice() != expected.as_bytes() {
+            return Ok(Some(number));
+        }
+    }
+    Ok(None)
+}
+
 #[test]
 fn pointers_select_their_parts(rt: HostRuntime) -> Result<(), Fail> {
-    for (pointer, expected) in EXAMPLES {
-        let shown = outcome(rt.alloc(), RFC, &[pointer])?;
-        assert_eq!(rt; shown.as_slice(), expected.as_bytes(), "at {pointer}");
-    }
-    for (document, pointers, expected) in PARTS {
-        let shown = outcome(rt.alloc(), document, pointers)?;
-        assert_eq!(rt; shown.as_slice(), expected.as_bytes(), "at {pointers:?}");
-    }
+    assert_eq!(rt; first_wrong_example(rt.alloc())?, None);
+    assert_eq!(rt; first_wrong_part(rt.alloc())?, None);
     Ok(())
 }
 
@@ -187,84 +201,122 @@ const TEXTS: [(&str, &str); 14] = [
     ("/~~0", "1"),
 ];
 
+/// The tokens of a pointer, after a `|` each.
+fn tokens(alloc: Global, pointer: &Pointer) -> Result<String, Fail> {
+    let mut shown = String::new(alloc);
+    for token in pointer.steps() {
+        shown.push_str("|")?;
+        shown.push_str(token.as_str())?;
+    }
+    Ok(shown)
+}
+
+/// The tokens of a text, or the byte at which it leaves the grammar.
+fn tokens_or_byte(alloc: Global, text: &str) -> Result<String, Fail> {
+    match Pointer::read(alloc, text) {
+        Ok(pointer) => tokens(alloc, &pointer),
+        Err(PointerFault::BadPointer(at)) => Ok(format!(in alloc; "{at}")?),
+        Err(PointerFault::Memory) => Ok(String::from_str(alloc, "no memory")?),
+    }
+}
+
+/// The first text that has another outcome, if there is one.
+fn first_wrong_text(alloc: Global) -> Result<Option<usize>, Fail> {
+    for (number, (text, expected)) in TEXTS.iter().enumerate() {
+        if tokens_or_byte(alloc, text)?.as_str() != *expected {
+            return Ok(Some(number));
+        }
+    }
+    Ok(None)
+}
+
 #[test]
 fn texts_are_pointers_or_leave_the_grammar(rt: HostRuntime) -> Result<(), Fail> {
-    for (text, expected) in TEXTS {
-        let mut shown = String::new(rt.alloc());
-        match Pointer::read(rt.alloc(), text) {
-            Ok(pointer) => {
-                for token in pointer.steps() {
-                    shown.push_str("|")?;
-                    shown.push_str(token.as_str())?;
-                }
-            }
-            Err(PointerFault::BadPointer(at)) => {
-                shown.push_str(format!(in rt.alloc(); "{at}")?.as_str())?
-            }
-            Err(PointerFault::Memory) => shown.push_str("no memory")?,
-        }
-        assert_eq!(rt; shown.as_str(), expected, "at {text}");
-    }
+    assert_eq!(rt; first_wrong_text(rt.alloc())?, None);
     Ok(())
+}
+
+/// The pointers of texts that are pointers, or none where one is not.
+fn sure_pointers(alloc: Global, texts: &[&str]) -> Result<Vec<Pointer>, Fail> {
+    match pointers_of(alloc, texts)? {
+        Ok(pointers) => Ok(pointers),
+        Err(_) => Ok(Vec::new(alloc)),
+    }
 }
 
 /// The part of a part: what the first pointers leave, and of this what the others leave.
 fn part_of_part(alloc: Global, texts: &[&str], others: &[&str]) -> Result<String, Fail> {
     let tree = read(alloc, b"{\"x\":[\"k\",\"l\",\"m\",\"n\"]}")?;
-    let (Ok(first), Ok(second)) = (pointers_of(alloc, texts)?, pointers_of(alloc, others)?) else {
-        return Ok(String::new(alloc));
-    };
+    let first = sure_pointers(alloc, texts)?;
+    let second = sure_pointers(alloc, others)?;
     match select(alloc, &tree, first.as_slice()) {
         Ok(Some(part)) => {
             let again = select(alloc, &part, second.as_slice());
             Ok(format!(in alloc; "{again:?}")?)
         }
-        other => Ok(format!(in alloc; "{other:?}")?),
+        _ => Ok(String::new(alloc)),
     }
+}
+
+/// Pointers, pointers into the part that they select, and the part that these select.
+const PARTS_OF_PARTS: [(&[&str], &[&str], &str); 3] = [
+    (
+        &["/x/1", "/x/3"],
+        &["/x/1", "/x/1"],
+        "Ok(Some(Object(Items { items: [Member { key: Text { text: \"x\" }, value: List(Items { items: [Item { at: 3, value: Text(Text { text: \"n\" }) }] }) }] })))",
+    ),
+    (
+        &["/x/1", "/x/3"],
+        &["/x/0", "/x/1"],
+        "Ok(Some(Object(Items { items: [Member { key: Text { text: \"x\" }, value: List(Items { items: [Item { at: 1, value: Text(Text { text: \"l\" }) }, Item { at: 3, value: Text(Text { text: \"n\" }) }] }) }] })))",
+    ),
+    (&["/x/1", "/x/3"], &["/x", "/x/3"], "Err(Missing(1))"),
+];
+
+/// The first part of a part that is another, if there is one.
+fn first_wrong_part_of_part(alloc: Global) -> Result<Option<usize>, Fail> {
+    for (number, (texts, others, expected)) in PARTS_OF_PARTS.iter().enumerate() {
+        if part_of_part(alloc, texts, others)?.as_str() != *expected {
+            return Ok(Some(number));
+        }
+    }
+    Ok(None)
 }
 
 #[test]
 fn indexes_are_of_the_present_order_and_places_are_not(rt: HostRuntime) -> Result<(), Fail> {
-    for (texts, others, expected) in [
-        (
-            ["/x/1", "/x/3"],
-            ["/x/1", "/x/1"],
-            "Ok(Some(Object(Items { items: [Member { key: Text { text: \"x\" }, value: List(Items { items: [Item { at: 3, value: Text(Text { text: \"n\" }) }] }) }] })))",
-        ),
-        (
-            ["/x/1", "/x/3"],
-            ["/x/0", "/x/1"],
-            "Ok(Some(Object(Items { items: [Member { key: Text { text: \"x\" }, value: List(Items { items: [Item { at: 1, value: Text(Text { text: \"l\" }) }, Item { at: 3, value: Text(Text { text: \"n\" }) }] }) }] })))",
-        ),
-        (["/x/1", "/x/3"], ["/x", "/x/3"], "Err(Missing(1))"),
-    ] {
-        let shown = part_of_part(rt.alloc(), &texts, &others)?;
-        assert_eq!(rt; shown.as_str(), expected);
-    }
+    assert_eq!(rt; first_wrong_part_of_part(rt.alloc())?, None);
     Ok(())
+}
+
+/// What a text that is no pointer is answered.
+fn pointer_fault(alloc: Global, fault: PointerFault) -> Result<String, Fail> {
+    Ok(format!(in alloc; "{fault}")?)
+}
+
+/// What is answered in place of a part.
+fn select_fault(alloc: Global, fault: SelectFault) -> Result<String, Fail> {
+    Ok(format!(in alloc; "{fault}")?)
 }
 
 #[test]
 fn faults_say_why(rt: HostRuntime) -> Result<(), Fail> {
-    for (shown, expected) in [
-        (
-            format!(in rt.alloc(); "{}", PointerFault::BadPointer(3))?,
-            "no JSON Pointer: it fails at byte 3",
-        ),
-        (
-            format!(in rt.alloc(); "{}", PointerFault::Memory)?,
-            "out of memory",
-        ),
-        (
-            format!(in rt.alloc(); "{}", SelectFault::Missing(2))?,
-            "pointer 2 names no place",
-        ),
-        (
-            format!(in rt.alloc(); "{}", SelectFault::Memory)?,
-            "out of memory",
-        ),
-    ] {
-        assert_eq!(rt; shown.as_str(), expected);
-    }
+    let alloc = rt.alloc();
+    assert_eq!(rt;
+        pointer_fault(alloc, PointerFault::BadPointer(3))?.as_str(),
+        "no JSON Pointer: it fails at byte 3"
+    );
+    assert_eq!(rt;
+        pointer_fault(alloc, PointerFault::Memory)?.as_str(),
+        "out of memory"
+    );
+    assert_eq!(rt;
+        select_fault(alloc, SelectFault::Missing(2))?.as_str(),
+        "pointer 2 names no place"
+    );
+    assert_eq!(rt;
+        select_fault(alloc, SelectFault::Memory)?.as_str(),
+        "out of memory"
+    );
     Ok(())
 }

@@ -82,12 +82,19 @@ fn outcome(alloc: Global, bytes: &[u8]) -> Result<String, Fail> {
     }
 }
 
+/// The first document that reads otherwise, if there is one.
+fn first_misread(alloc: Global) -> Result<Option<usize>, Fail> {
+    for (number, (text, expected)) in DOCUMENTS.iter().enumerate() {
+        if outcome(alloc, text.as_bytes())?.as_str() != *expected {
+            return Ok(Some(number));
+        }
+    }
+    Ok(None)
+}
+
 #[test]
 fn documents_read_as_their_trees(rt: HostRuntime) -> Result<(), Fail> {
-    for (text, expected) in DOCUMENTS {
-        let shown = outcome(rt.alloc(), text.as_bytes())?;
-        assert_eq!(rt; shown.as_str(), expected, "at {text}");
-    }
+    assert_eq!(rt; first_misread(rt.alloc())?, None);
     assert_eq!(rt; outcome(rt.alloc(), b"\"\xff\"")?.as_str(), "NotJson");
     Ok(())
 }
@@ -111,31 +118,53 @@ fn nested(
     Ok(text)
 }
 
-#[test]
-fn a_nesting_of_100_is_read_and_no_more(rt: HostRuntime) -> Result<(), Fail> {
-    for (depth, inside, expected) in [
-        (100usize, "7", ""),
-        (100, "[]", "TooDeep"),
-        (101, "", "TooDeep"),
-        (101, "0.5", "TooDeep"),
-        (127, "", "TooDeep"),
-        (128, "", "NotJson"),
-    ] {
-        let lists = nested(rt.alloc(), depth, "[", inside, "]")?;
-        let shown = outcome(rt.alloc(), lists.as_bytes())?;
-        if expected.is_empty() {
-            assert!(rt; shown.as_str().starts_with("List("), "at {depth}");
-            let printed = print(rt.alloc(), &read(rt.alloc(), lists.as_bytes())?)?;
-            assert_eq!(rt; printed.as_slice(), lists.as_bytes(), "at {depth}");
-        } else {
-            assert_eq!(rt; shown.as_str(), expected, "at {depth} {inside}");
+/// How often lists nest, what stands inside them, and the fault, or nothing where they are read.
+const NESTINGS: [(usize, &str, &str); 6] = [
+    (100, "7", ""),
+    (100, "[]", "TooDeep"),
+    (101, "", "TooDeep"),
+    (101, "0.5", "TooDeep"),
+    (127, "", "TooDeep"),
+    (128, "", "NotJson"),
+];
+
+/// The compact text of the tree of a document.
+fn printed(alloc: Global, text: &str) -> Result<Vec<u8>, Fail> {
+    let tree = read(alloc, text.as_bytes())?;
+    Ok(print(alloc, &tree)?)
+}
+
+/// Whether lists that nest so have this fault, or else are read as a list and print as they were.
+fn nests_so(alloc: Global, depth: usize, inside: &str, fault: &str) -> Result<bool, Fail> {
+    let lists = nested(alloc, depth, "[", inside, "]")?;
+    let shown = outcome(alloc, lists.as_bytes())?;
+    if !fault.is_empty() {
+        return Ok(shown.as_str() == fault);
+    }
+    let printed = printed(alloc, lists.as_str())?;
+    Ok(shown.as_str().starts_with("List(") && printed.as_slice() == lists.as_bytes())
+}
+
+/// The first of the nestings that is answered otherwise, if there is one.
+fn first_nested_otherwise(alloc: Global) -> Result<Option<usize>, Fail> {
+    for (number, (depth, inside, fault)) in NESTINGS.iter().enumerate() {
+        if !nests_so(alloc, *depth, inside, fault)? {
+            return Ok(Some(number));
         }
     }
-    let objects = nested(rt.alloc(), 100, "{\"a\":", "{}", "}")?;
-    assert_eq!(rt;
-        outcome(rt.alloc(), objects.as_bytes())?.as_str(),
-        "TooDeep"
-    );
+    Ok(None)
+}
+
+/// What becomes of an object inside 100 objects.
+fn nested_objects(alloc: Global) -> Result<String, Fail> {
+    let objects = nested(alloc, 100, "{\"a\":", "{}", "}")?;
+    outcome(alloc, objects.as_bytes())
+}
+
+#[test]
+fn a_nesting_of_100_is_read_and_no_more(rt: HostRuntime) -> Result<(), Fail> {
+    assert_eq!(rt; first_nested_otherwise(rt.alloc())?, None);
+    assert_eq!(rt; nested_objects(rt.alloc())?.as_str(), "TooDeep");
     Ok(())
 }
 
@@ -156,12 +185,19 @@ const PRINTED: [(&str, &str); 7] = [
     ("{\"\\n\":[[],\"\"]}", "{\"\\n\":[[],\"\"]}"),
 ];
 
+/// The first document that prints otherwise, if there is one.
+fn first_misprinted(alloc: Global) -> Result<Option<&'static str>, Fail> {
+    for (text, expected) in &PRINTED {
+        if printed(alloc, text)?.as_slice() != expected.as_bytes() {
+            return Ok(Some(text));
+        }
+    }
+    Ok(None)
+}
+
 #[test]
 fn trees_print_as_compact_text(rt: HostRuntime) -> Result<(), Fail> {
-    for (text, expected) in PRINTED {
-        let printed = print(rt.alloc(), &read(rt.alloc(), text.as_bytes())?)?;
-        assert_eq!(rt; printed.as_slice(), expected.as_bytes(), "at {text}");
-    }
+    assert_eq!(rt; first_misprinted(rt.alloc())?, None);
     Ok(())
 }
 
@@ -176,21 +212,40 @@ const NAMES: [(&str, Option<&str>); 7] = [
     ("\u{ea}", None),
 ];
 
-#[test]
-fn members_are_found_by_name(rt: HostRuntime) -> Result<(), Fail> {
-    let text = "{\"b\":\"3\",\"\u{e9}\":\"4\",\"a\":\"1\",\"ab\":\"2\"}";
-    let tree = read(rt.alloc(), text.as_bytes())?;
-    for (name, expected) in NAMES {
-        let found = tree.get_text(name).map(|text| text.as_str());
-        assert_eq!(rt; found, expected, "at {name}");
+/// An object with members of four of these names.
+const NAMED: &str = "{\"b\":\"3\",\"\u{e9}\":\"4\",\"a\":\"1\",\"ab\":\"2\"}";
+
+/// Whether this text is found at the name.
+fn is_found_as(alloc: Global, name: &str, expected: Option<&str>) -> Result<bool, Fail> {
+    let tree = read(alloc, NAMED.as_bytes())?;
+    Ok(tree.get_text(name).map(|text| text.as_str()) == expected)
+}
+
+/// The first name at which another text is found, if there is one.
+fn first_misfound(alloc: Global) -> Result<Option<usize>, Fail> {
+    for (number, (name, expected)) in NAMES.iter().enumerate() {
+        if !is_found_as(alloc, name, *expected)? {
+            return Ok(Some(number));
+        }
     }
+    Ok(None)
+}
+
+/// Whether the object has a member `b`, and no text `c`.
+fn has_b_alone(alloc: Global) -> Result<bool, Fail> {
+    let tree = read(alloc, NAMED.as_bytes())?;
     match tree.as_object() {
         Some(members) => {
-            assert!(rt; member(members, "b").is_some());
-            assert!(rt; text_member(members, "c").is_none());
+            Ok(member(members, "b").is_some() && text_member(members, "c").is_none())
         }
-        None => assert!(rt; false),
+        None => Ok(false),
     }
+}
+
+#[test]
+fn members_are_found_by_name(rt: HostRuntime) -> Result<(), Fail> {
+    assert_eq!(rt; first_misfound(rt.alloc())?, None);
+    assert!(rt; has_b_alone(rt.alloc())?);
     Ok(())
 }
 
@@ -235,40 +290,82 @@ fn leads_to(
     }
 }
 
+/// The place below one name.
+fn below(alloc: Global, name: &str) -> Result<Place, Fail> {
+    let mut place = Place::root(alloc);
+    place.push(Step::Key(Text::from_str(alloc, name)?))?;
+    Ok(place)
+}
+
+/// The first name whose place has another pointer or value, if there is one.
+fn first_misled(alloc: Global) -> Result<Option<&'static str>, Fail> {
+    for (name, pointer, value) in &POINTERS {
+        let place = below(alloc, name)?;
+        if !leads_to(alloc, DOCUMENT, &place, pointer, value)? {
+            return Ok(Some(name));
+        }
+    }
+    Ok(None)
+}
+
 #[test]
 fn pointers_lead_below_one_name(rt: HostRuntime) -> Result<(), Fail> {
-    for (name, pointer, value) in POINTERS {
-        let mut place = Place::root(rt.alloc());
-        place.push(Step::Key(Text::from_str(rt.alloc(), name)?))?;
-        assert!(rt; leads_to(rt.alloc(), DOCUMENT, &place, pointer, value)?);
-    }
+    assert_eq!(rt; first_misled(rt.alloc())?, None);
     Ok(())
+}
+
+/// The place of the element of a list below one name.
+fn below_at(alloc: Global, name: &str, at: u64) -> Result<Place, Fail> {
+    let mut place = below(alloc, name)?;
+    place.push(Step::At(at))?;
+    Ok(place)
 }
 
 #[test]
 fn pointers_lead_to_the_whole_and_to_an_element(rt: HostRuntime) -> Result<(), Fail> {
-    let mut place = Place::root(rt.alloc());
-    assert!(rt; leads_to(rt.alloc(), DOCUMENT, &place, "", WHOLE)?);
-    place.push(Step::Key(Text::from_str(rt.alloc(), "foo")?))?;
-    place.push(Step::At(0))?;
-    assert!(rt; leads_to(rt.alloc(), DOCUMENT, &place, "/foo/0", "\"bar\"")?);
+    let alloc = rt.alloc();
+    assert!(rt; leads_to(alloc, DOCUMENT, &Place::root(alloc), "", WHOLE)?);
+    assert!(rt;
+        leads_to(
+            alloc,
+            DOCUMENT,
+            &below_at(alloc, "foo", 0)?,
+            "/foo/0",
+            "\"bar\""
+        )?
+    );
     Ok(())
+}
+
+/// The place of an element of a list that is the whole.
+fn element(alloc: Global, at: u64) -> Result<Place, Fail> {
+    let mut place = Place::root(alloc);
+    place.push(Step::At(at))?;
+    Ok(place)
+}
+
+/// Whether steps are taken away from the last to the first.
+fn goes_back(alloc: Global, mut place: Place) -> Result<bool, Fail> {
+    let foo = Step::Key(Text::from_str(alloc, "foo")?);
+    Ok(place.pop() == Some(Step::At(1)) && place.pop() == Some(foo) && place.pop() == None)
+}
+
+/// Whether two places one after another are the one that is stepped to.
+fn goes_on(alloc: Global) -> Result<bool, Fail> {
+    let further = element(alloc, 1)?;
+    let joined = below(alloc, "foo")?.then(alloc, &further)?;
+    let place = below_at(alloc, "foo", 1)?;
+    Ok(
+        place == joined
+            && place != further
+            && leads_to(alloc, DOCUMENT, &joined, "/foo/1", "\"baz\"")?,
+    )
 }
 
 #[test]
 fn a_place_is_gone_back_and_on(rt: HostRuntime) -> Result<(), Fail> {
-    let mut place = Place::root(rt.alloc());
-    place.push(Step::Key(Text::from_str(rt.alloc(), "foo")?))?;
-    let mut further = Place::root(rt.alloc());
-    further.push(Step::At(1))?;
-    let joined = place.then(rt.alloc(), &further)?;
-    assert!(rt; leads_to(rt.alloc(), DOCUMENT, &joined, "/foo/1", "\"baz\"")?);
-    place.push(Step::At(1))?;
-    assert!(rt; place == joined);
-    assert!(rt; place != further);
-    assert!(rt; place.pop() == Some(Step::At(1)));
-    assert!(rt; place.pop() == Some(Step::Key(Text::from_str(rt.alloc(), "foo")?)));
-    assert!(rt; place.pop() == None);
+    assert!(rt; goes_on(rt.alloc())?);
+    assert!(rt; goes_back(rt.alloc(), below_at(rt.alloc(), "foo", 1)?)?);
     Ok(())
 }
 
@@ -295,14 +392,21 @@ fn are_equal(alloc: Global, text: &str, other: &str) -> Result<bool, Fail> {
     Ok(tree == copy)
 }
 
-#[test]
-fn trees_equal_their_copies_and_no_others(rt: HostRuntime) -> Result<(), Fail> {
-    for i in 0..APART.len() {
-        for j in 0..APART.len() {
-            let equal = are_equal(rt.alloc(), APART[i], APART[j])?;
-            assert_eq!(rt; equal, i == j, "{i} and {j}");
+/// The first document that equals another one, or does not equal itself, if there is one.
+fn first_misjudged(alloc: Global) -> Result<Option<(usize, usize)>, Fail> {
+    for (i, text) in APART.iter().enumerate() {
+        for (j, other) in APART.iter().enumerate() {
+            if are_equal(alloc, text, other)? != (i == j) {
+                return Ok(Some((i, j)));
+            }
         }
     }
+    Ok(None)
+}
+
+#[test]
+fn trees_equal_their_copies_and_no_others(rt: HostRuntime) -> Result<(), Fail> {
+    assert_eq!(rt; first_misjudged(rt.alloc())?, None);
     assert!(rt;
         are_equal(
             rt.alloc(),
@@ -324,12 +428,23 @@ fn one_element(alloc: Global, at: u64) -> Result<Tree, Fail> {
     Ok(Tree::List(items))
 }
 
+/// Whether lists of one element are equal where their indexes are.
+fn equal_by_index(alloc: Global, at: u64, other: u64) -> Result<bool, Fail> {
+    let tree = one_element(alloc, at)?;
+    Ok(tree == one_element(alloc, other)?)
+}
+
+/// Whether a copy has the index too.
+fn is_copied(alloc: Global, at: u64) -> Result<bool, Fail> {
+    let tree = one_element(alloc, at)?;
+    Ok(tree.copy(alloc)? == tree)
+}
+
 #[test]
 fn indexes_count_and_are_copied(rt: HostRuntime) -> Result<(), Fail> {
-    let tree = one_element(rt.alloc(), 7)?;
-    assert!(rt; tree == one_element(rt.alloc(), 7)?);
-    assert!(rt; tree != one_element(rt.alloc(), 0)?);
-    assert!(rt; tree.copy(rt.alloc())? == tree);
+    assert!(rt; equal_by_index(rt.alloc(), 7, 7)?);
+    assert!(rt; !equal_by_index(rt.alloc(), 7, 0)?);
+    assert!(rt; is_copied(rt.alloc(), 7)?);
     Ok(())
 }
 
@@ -344,12 +459,25 @@ const WITHOUT: [(&str, &str, &str); 7] = [
     ("[{\"a\":1}]", "a", "[{\"a\":1}]"),
 ];
 
+/// Whether a document without the member of this name is the other document.
+fn is_without(alloc: Global, text: &str, name: &str, expected: &str) -> Result<bool, Fail> {
+    let tree = read(alloc, text.as_bytes())?.without(name);
+    Ok(tree == read(alloc, expected.as_bytes())?)
+}
+
+/// The first row of `WITHOUT` that has another outcome, if there is one.
+fn first_taken_otherwise(alloc: Global) -> Result<Option<usize>, Fail> {
+    for (number, (text, name, expected)) in WITHOUT.iter().enumerate() {
+        if !is_without(alloc, text, name, expected)? {
+            return Ok(Some(number));
+        }
+    }
+    Ok(None)
+}
+
 #[test]
 fn a_member_is_taken_out_by_its_whole_name(rt: HostRuntime) -> Result<(), Fail> {
-    for (text, name, expected) in WITHOUT {
-        let tree = read(rt.alloc(), text.as_bytes())?.without(name);
-        assert!(rt; tree == read(rt.alloc(), expected.as_bytes())?);
-    }
+    assert_eq!(rt; first_taken_otherwise(rt.alloc())?, None);
     Ok(())
 }
 
@@ -365,43 +493,58 @@ const WITH: [(&str, &str, &str); 8] = [
     ("[1]", "a", "[1]"),
 ];
 
+/// Whether a document with 0 at this name is the other document.
+fn is_with(alloc: Global, text: &str, name: &str, expected: &str) -> Result<bool, Fail> {
+    let key = Text::from_str(alloc, name)?;
+    let object = read(alloc, text.as_bytes())?;
+    let tree = object.with_member(alloc, key, Tree::Whole(0))?;
+    Ok(tree == read(alloc, expected.as_bytes())?)
+}
+
+/// The first row of `WITH` that has another outcome, if there is one.
+fn first_put_otherwise(alloc: Global) -> Result<Option<usize>, Fail> {
+    for (number, (text, name, expected)) in WITH.iter().enumerate() {
+        if !is_with(alloc, text, name, expected)? {
+            return Ok(Some(number));
+        }
+    }
+    Ok(None)
+}
+
 #[test]
 fn a_member_is_put_in_at_its_place(rt: HostRuntime) -> Result<(), Fail> {
-    for (text, name, expected) in WITH {
-        let key = Text::from_str(rt.alloc(), name)?;
-        let object = read(rt.alloc(), text.as_bytes())?;
-        let tree = object.with_member(rt.alloc(), key, Tree::Whole(0))?;
-        assert!(rt; tree == read(rt.alloc(), expected.as_bytes())?);
-    }
+    assert_eq!(rt; first_put_otherwise(rt.alloc())?, None);
     Ok(())
+}
+
+/// What a fault says.
+fn said(alloc: Global, fault: &TreeFault) -> Result<String, Fail> {
+    Ok(format!(in alloc; "{fault}")?)
+}
+
+/// What the fault of a text says.
+fn fault_of(alloc: Global, text: &str) -> Result<String, Fail> {
+    match read(alloc, text.as_bytes()) {
+        Ok(_) => Ok(String::from_str(alloc, "it was read")?),
+        Err(fault) => said(alloc, &fault),
+    }
 }
 
 #[test]
 fn faults_say_why(rt: HostRuntime) -> Result<(), Fail> {
     let alloc = rt.alloc();
-    let json = TreeFault::NotJson;
     assert_eq!(rt;
-        format!(in alloc; "{json}")?.as_str(),
+        said(alloc, &TreeFault::NotJson)?.as_str(),
         "the bytes are no JSON text"
     );
-    let deep = TreeFault::TooDeep;
     assert_eq!(rt;
-        format!(in alloc; "{deep}")?.as_str(),
+        said(alloc, &TreeFault::TooDeep)?.as_str(),
         "the text nests more than 100 deep"
     );
-    let memory = TreeFault::Memory;
-    assert_eq!(rt; format!(in alloc; "{memory}")?.as_str(), "out of memory");
-    Ok(())
-}
-
-#[test]
-fn a_fault_names_its_place(rt: HostRuntime) -> Result<(), Fail> {
-    match read(rt.alloc(), b"{\"a/b\":[0,{\"~\":1.5}]}") {
-        Ok(_) => assert!(rt; false, "it was read"),
-        Err(fault) => {
-            let line = "the number at `/a~1b/1/~0` is not whole";
-            assert_eq!(rt; format!(in rt.alloc(); "{fault}")?.as_str(), line);
-        }
-    }
+    assert_eq!(rt; said(alloc, &TreeFault::Memory)?.as_str(), "out of memory");
+    assert_eq!(rt;
+        fault_of(alloc, "{\"a/b\":[0,{\"~\":1.5}]}")?.as_str(),
+        "the number at `/a~1b/1/~0` is not whole"
+    );
     Ok(())
 }
