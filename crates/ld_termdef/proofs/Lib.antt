@@ -11,3 +11,7 @@ mod RowOrder
 mod Returns
 mod Chain
 mod Counting
+mod Making
+mod Partial
+mod Chains
+mod Existence

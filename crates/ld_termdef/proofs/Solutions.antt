@@ -17,7 +17,8 @@ use Rattle.ld_termdef.proofs.Unique.{AgreeOn, rows_same}
 
 -- ---- the entry of a term has its name
 
-find_key : (key : List ℕ) (es : List ContextEntry) (e : ContextEntry) → find_entry key es ≡ Some e → e.key ≡ key
+-- what is found has the key
+pub find_key : (key : List ℕ) (es : List ContextEntry) (e : ContextEntry) → find_entry key es ≡ Some e → e.key ≡ key
 find_key key [] e is = absurd (cc)
 find_key key (x ∷ xs) e is = go (find_key key xs e) (bytes_eq x.key key) refl is
   where
@@ -25,7 +26,8 @@ find_key key (x ∷ xs) e is = go (find_key key xs e) (bytes_eq x.key key) refl 
     go later true s is = let found : x ≡ e = cc in bytes_eq-true e.key key (subst (λ (z : ContextEntry). bytes_eq z.key key ≡ true) found s)
     go later false s is = later is
 
-kept_is : (e f : ContextEntry) (out : Bool) → (if out then None else Some e) ≡ Some f → e ≡ f
+-- an entry that counts is the one that was found
+pub kept_is : (e f : ContextEntry) (out : Bool) → (if out then None else Some e) ≡ Some f → e ≡ f
 kept_is e f true is = absurd (cc)
 kept_is e f false is = cc
 
@@ -49,7 +51,7 @@ pub record BothSolve (g : Given) (c d : Context) (P : List ℕ → Type 0) : Typ
   pub other_solves : (u : List ℕ) → P u → Solves g d u
 
 -- a term with an entry has a definition where the equation is solved
-has_definition : (g : Given) (c : Context) (u : List ℕ) (o : Option ContextEntry) → SolvesEntry g c u o → is_some o ≡ true → is_some (c.terms u) ≡ true
+pub has_definition : (g : Given) (c : Context) (u : List ℕ) (o : Option ContextEntry) → SolvesEntry g c u o → is_some o ≡ true → is_some (c.terms u) ≡ true
 has_definition g c u None s is = absurd (cc)
 has_definition g c u (Some e) s is = go (expanded_of (out-Tree e.value)) s
   where
@@ -58,7 +60,7 @@ has_definition g c u (Some e) s is = go (expanded_of (out-Tree e.value)) s
     go (Some w) s = ap is_some s.is
 
 -- both agree on texts, where they say the same of those with an entry
-agrees : (g : Given) (c d : Context) (texts : List (List ℕ)) → ((u : List ℕ) → entry g u ≡ None → c.terms u ≡ g.before.terms u) → ((u : List ℕ) → entry g u ≡ None → d.terms u ≡ g.before.terms u) → ((u : List ℕ) → Contains texts u → is_some (entry g u) ≡ true → (c.terms u ≡ d.terms u) × (is_some (c.terms u) ≡ true)) → AgreeOn g texts c d
+pub agrees : (g : Given) (c d : Context) (texts : List (List ℕ)) → ((u : List ℕ) → entry g u ≡ None → c.terms u ≡ g.before.terms u) → ((u : List ℕ) → entry g u ≡ None → d.terms u ≡ g.before.terms u) → ((u : List ℕ) → Contains texts u → is_some (entry g u) ≡ true → (c.terms u ≡ d.terms u) × (is_some (c.terms u) ≡ true)) → AgreeOn g texts c d
 agrees g c d texts one other same u at = go (entry g u) refl
   where
     go : (o : Option ContextEntry) → entry g u ≡ o → (c.terms u ≡ d.terms u) × (is_some (c.terms u) ≡ is_term g u)
@@ -66,7 +68,7 @@ agrees g c d texts one other same u at = go (entry g u) refl
     go (Some e) is = let s = same u at (ap is_some is) in (s.0, s.1 ∙ sym (ap (λ o. is_some o || is_some (g.before.terms u)) is))
 
 -- the rows of the entry are the same
-entry_rows_same : (g : Given) (c d : Context) (t : List ℕ) (e : ContextEntry) (w : ExpandedDefinition) → entry g t ≡ Some e → expanded_of (out-Tree e.value) ≡ Some w → c.vocab ≡ d.vocab → AgreeOn g (looks g t) c d → rows c e.key w ≡ rows d e.key w
+pub entry_rows_same : (g : Given) (c d : Context) (t : List ℕ) (e : ContextEntry) (w : ExpandedDefinition) → entry g t ≡ Some e → expanded_of (out-Tree e.value) ≡ Some w → c.vocab ≡ d.vocab → AgreeOn g (looks g t) c d → rows c e.key w ≡ rows d e.key w
 entry_rows_same g c d t e w is of v same =
     rows_same g c d e.key w v (subst (λ texts. AgreeOn g texts c d) (ap (entry_looks g) is ∙ ap (definition_looks g e.key) of) same)
 
@@ -128,7 +130,7 @@ pub needs_no_itself : (g : Given) (c : Context) (t : List ℕ) → IsContext g c
 needs_no_itself g c t p itself = let less : p.ranked.rank t < p.ranked.rank t = reaches_falls g p.ranked t t itself in omega arith
 
 -- what a step more reaches
-reaches_more : (g : Given) (t u w : List ℕ) → Reaches g t u → Needs g u w → Reaches g t w
+pub reaches_more : (g : Given) (t u w : List ℕ) → Reaches g t u → Needs g u w → Reaches g t w
 reaches_more g _ _ w (once t u first) needs = more t u w first (once u w needs)
 reaches_more g _ _ w (more t v u first rest) needs = more t v w first (reaches_more g v u w rest needs)
 

@@ -37,6 +37,13 @@ pub fn a_result_excludes_every_fault()
     ensures { (g : Given) (c : Context) (x : Fault) → IsContext g c → DefinitionFault g x → ⊥ }
 {}
 
+/// Where no fault holds there is a result. With the two laws above a context object has a result
+/// exactly where it has no fault.
+pub fn without_a_fault_there_is_a_result()
+    ensures { (g : Given) → ((x : Fault) → DefinitionFault g x → ⊥)
+        → (c : Context) × IsContext g c }
+{}
+
 /// In a result no term needs itself.
 pub fn in_a_result_no_term_needs_itself()
     ensures { (g : Given) (c : Context) (t : List ℕ) → IsContext g c → Reaches g t t → ⊥ }
