@@ -1,10 +1,12 @@
 //! A digest by either hash, as bytes and as hexadecimal digits. Contracts see the list of its bytes,
 //! or of the codes of its digits.
 
-ghost use Rattle.std.specs.Prelude.{◌≡◌};
+ghost use Rattle.std.specs.Prelude.{◌≡◌, ◌≢◌, ◌↔◌, length, IfSome, IsNone};
 ghost use Rattle.std.specs.Str.{IsAscii};
 ghost use Rattle.digest_mac.specs.Arrays.{bytes_of, digits_of};
+ghost use Rattle.digest_mac.specs.Digests.{digest_size};
 
+use crate::hash::Hash;
 use std::cmp::Ordering;
 use std::marker::Model;
 use std::str;
@@ -64,6 +66,24 @@ impl Digest {
     {
         Digest {
             bytes: Bytes::Of48(bytes),
+        }
+    }
+
+    /// The digest by this hash that has these bytes, or `None` where they are not as many as a
+    /// digest has. It takes no memory.
+    pub fn from_slice(hash: Hash, bytes: &[u8]) -> Option<Digest>
+        ensures digest { IfSome result (λ digest. digest ≡ bytes.now) }
+        ensures none { IsNone result ↔ (length bytes.now ≢ digest_size hash) }
+    {
+        match hash {
+            Hash::Sha256 => match <[u8; 32]>::try_from(bytes) {
+                Ok(bytes) => Some(Digest::of_32(bytes)),
+                Err(_) => None,
+            },
+            Hash::Sha384 => match <[u8; 48]>::try_from(bytes) {
+                Ok(bytes) => Some(Digest::of_48(bytes)),
+                Err(_) => None,
+            },
         }
     }
 
