@@ -8,6 +8,9 @@ use Rattle.cbor_core.specs.declared.item.Item.TheVariants as v
 use Rattle.cbor_core.specs.Grammar.{Encodes}
 use Rattle.cbor_core.specs.Refusals.{IsRefused}
 use Rattle.base_types.specs.Order.{rise}
+use Rattle.digest_mac.specs.declared.hash.Hash.{Hash}
+use Rattle.proof_cbor.specs.declared.headers.Kind.{Kind}
+use Rattle.proof_cbor.specs.declared.headers.Kind.TheVariants.{Base, Derived}
 use Rattle.proof_cbor.specs.declared.fault.Part.{Part}
 use Rattle.proof_cbor.specs.declared.fault.Part.TheVariants as part
 use Rattle.proof_cbor.specs.declared.fault.ValueFault.{ValueFault}
@@ -15,7 +18,7 @@ use Rattle.proof_cbor.specs.declared.fault.ValueFault.TheVariants.{NotMultibase,
 use Rattle.proof_cbor.specs.declared.value.BaseValue.{BaseValue}
 use Rattle.proof_cbor.specs.declared.value.DerivedValue.{DerivedValue}
 use Rattle.proof_cbor.specs.declared.value.MapEntry.{MapEntry}
-use Rattle.proof_cbor.specs.Values.{base_header, derived_header, IsText, all_sized, digests_sized, pair_of, SpellsBase, SpellsDerived}
+use Rattle.proof_cbor.specs.Values.{header, IsText, all_sized, digests_sized, pair_of, SpellsBase, SpellsDerived}
 
 -- ---- kinds of parts
 
@@ -35,14 +38,14 @@ AreBlobsOf n item =
     (contents : List (List ℕ)) × (item ≡ v.List (map v.Blob contents))
     × (all_sized n contents ≡ true)
 
--- a map from numbers to byte strings, and one to digests of 32 bytes each
+-- a map from numbers to byte strings, and one to digests of this hash
 abbrev pub IsLabelMap : Item → Type 0
 IsLabelMap item = (entries : List MapEntry) × (item ≡ v.Map (map pair_of entries))
 
-abbrev pub IsDigestMap : Item → Type 0
-IsDigestMap item =
+abbrev pub IsDigestMap : Hash → Item → Type 0
+IsDigestMap hash item =
     (entries : List MapEntry) × (item ≡ v.Map (map pair_of entries))
-    × (digests_sized entries ≡ true)
+    × (digests_sized hash entries ≡ true)
 
 -- a list of texts
 abbrev pub AreTexts : Item → Type 0
@@ -79,12 +82,13 @@ RefusesBaseParts five fault =
     (RefusesPart part.Signatures (AreBlobs five.3) (AreBlobsOf 64 five.3) fault
     ((AreTexts five.4 → ⊥) × (fault ≡ Shape part.Pointers)))))
 
-abbrev pub RefusesDerivedParts : Five → ValueFault → Type 0
-RefusesDerivedParts five fault =
+-- the digests of a derived value are as long as its hash says
+abbrev pub RefusesDerivedParts : Hash → Five → ValueFault → Type 0
+RefusesDerivedParts hash five fault =
     RefusesPart part.BaseSignature (IsBlob five.0) (IsBlobOf 64 five.0) fault
     (RefusesPart part.PublicKey (IsBlob five.1) (IsBlobOf 35 five.1) fault
     (RefusesPart part.Signatures (AreBlobs five.2) (AreBlobsOf 64 five.2) fault
-    (RefusesPart part.LabelMap (IsLabelMap five.3) (IsDigestMap five.3) fault
+    (RefusesPart part.LabelMap (IsLabelMap five.3) (IsDigestMap hash five.3) fault
     (((AreWholes five.4 → ⊥) × (fault ≡ Shape part.Indexes))
     ⊎ (AreWholes five.4 × (AreRising five.4 → ⊥) × (fault ≡ Indexes))))))
 
@@ -96,28 +100,30 @@ RefusesFive Refuses item fault =
 
 -- ---- the text
 
--- The bytes do not begin with the header, or what follows is no item of CBOR, or its parts are
--- refused.
-abbrev pub RefusesBytes : List ℕ → (Five → ValueFault → Type 0) → List ℕ → ValueFault → Type 0
-RefusesBytes header Refuses bytes fault =
-    (((rest : List ℕ) → bytes ≢ header ++ rest) × (fault ≡ Header))
-    ⊎ ((rest : List ℕ) × (bytes ≡ header ++ rest)
+-- The bytes begin with no header of this kind, or what follows the header of a hash is no item of
+-- CBOR, or its parts are refused by this hash.
+abbrev pub RefusesBytes :
+    Kind → (Hash → Five → ValueFault → Type 0) → List ℕ → ValueFault → Type 0
+RefusesBytes kind Refuses bytes fault =
+    (((hash : Hash) (rest : List ℕ) → bytes ≢ header kind hash ++ rest) × (fault ≡ Header))
+    ⊎ ((hash : Hash) × (rest : List ℕ) × (bytes ≡ header kind hash ++ rest)
     × (((e : CborFault) × IsRefused rest e × (fault ≡ Cbor e))
     ⊎ ((item : Item) × (count : ℕ) × (count ≤ 100000) × Encodes 4 item count rest
-    × RefusesFive Refuses item fault)))
+    × RefusesFive (Refuses hash) item fault)))
 
 -- The text is not `u` and strict base64url without padding, or its bytes are refused.
-abbrev pub RefusesMultibase : List ℕ → (Five → ValueFault → Type 0) → List ℕ → ValueFault → Type 0
-RefusesMultibase header Refuses text fault =
+abbrev pub RefusesMultibase :
+    Kind → (Hash → Five → ValueFault → Type 0) → List ℕ → ValueFault → Type 0
+RefusesMultibase kind Refuses text fault =
     (((bytes : List ℕ) → IsText text bytes → ⊥) × (fault ≡ NotMultibase))
-    ⊎ ((bytes : List ℕ) × IsText text bytes × RefusesBytes header Refuses bytes fault)
+    ⊎ ((bytes : List ℕ) × IsText text bytes × RefusesBytes kind Refuses bytes fault)
 
 -- The text is refused as a base value, or as a derived value.
 abbrev pub RefusesBase : List ℕ → ValueFault → Type 0
-RefusesBase text fault = RefusesMultibase base_header RefusesBaseParts text fault
+RefusesBase text fault = RefusesMultibase Base (λ hash. RefusesBaseParts) text fault
 
 abbrev pub RefusesDerived : List ℕ → ValueFault → Type 0
-RefusesDerived text fault = RefusesMultibase derived_header RefusesDerivedParts text fault
+RefusesDerived text fault = RefusesMultibase Derived RefusesDerivedParts text fault
 
 -- what the text is as a base value, and as a derived value: the value, or refused
 abbrev pub ReadsBase : List ℕ → Result BaseValue ValueFault → Type 0

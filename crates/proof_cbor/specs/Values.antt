@@ -9,18 +9,23 @@ use Rattle.cbor_core.specs.declared.item.Pair.{Pair}
 use Rattle.cbor_core.specs.Grammar.{Encodes}
 use Rattle.cbor_core.specs.Writing.{encoding_of, count_of, fits}
 use Rattle.base_types.specs.Order.{rise}
+use Rattle.digest_mac.specs.declared.hash.Hash.{Hash}
+use Rattle.digest_mac.specs.declared.hash.Hash.TheVariants.{Sha256, Sha384}
+use Rattle.digest_mac.specs.Digests.{digest_size}
+use Rattle.proof_cbor.specs.declared.headers.Kind.{Kind}
+use Rattle.proof_cbor.specs.declared.headers.Kind.TheVariants.{Base, Derived}
 use Rattle.proof_cbor.specs.declared.value.BaseValue.{BaseValue}
 use Rattle.proof_cbor.specs.declared.value.DerivedValue.{DerivedValue}
 use Rattle.proof_cbor.specs.declared.value.MapEntry.{MapEntry}
 pub use Rattle.digest_mac.specs.Labels.{multibase_text}
 
--- the three bytes before a base value (3.5.2)
-abbrev pub base_header : List ℕ
-base_header = 0xd9 ∷ 0x5d ∷ 0x00 ∷ []
-
--- the three bytes before a derived value (3.5.7)
-abbrev pub derived_header : List ℕ
-derived_header = 0xd9 ∷ 0x5d ∷ 0x01 ∷ []
+-- The three bytes before a value of a kind by a hash. Those by SHA-256 are the standard's (3.5.2 and
+-- 3.5.7), those by SHA-384 are this project's own.
+abbrev pub header : Kind → Hash → List ℕ
+header Base Sha256 = 0xd9 ∷ 0x5d ∷ 0x00 ∷ []
+header Base Sha384 = 0xd9 ∷ 0x5d ∷ 0x20 ∷ []
+header Derived Sha256 = 0xd9 ∷ 0x5d ∷ 0x01 ∷ []
+header Derived Sha384 = 0xd9 ∷ 0x5d ∷ 0x21 ∷ []
 
 -- the text is that of these bytes; each number of the list is one byte
 abbrev pub IsText : List ℕ → List ℕ → Type 0
@@ -30,9 +35,10 @@ IsText text bytes = IsBytes bytes × (text ≡ multibase_text bytes)
 abbrev pub all_sized : ℕ → List (List ℕ) → Bool
 all_sized n contents = list_all (λ c. length c == n) contents
 
--- each of the digests has 32 bytes
-abbrev pub digests_sized : List MapEntry → Bool
-digests_sized entries = list_all (λ (e : MapEntry). length e.digest == 32) entries
+-- each of the digests has the length of the hash
+abbrev pub digests_sized : Hash → List MapEntry → Bool
+digests_sized hash entries =
+    list_all (λ (e : MapEntry). length e.digest == digest_size hash) entries
 
 -- an entry of a label map, as the pair of a map from numbers to byte strings
 abbrev pub pair_of : MapEntry → Pair Item
@@ -61,7 +67,7 @@ pub record DerivedSizes (value : DerivedValue) : Type 0 where
   pub signature : length value.signature ≡ 64
   pub key : length value.key ≡ 35
   pub signatures : all_sized 64 value.signatures ≡ true
-  pub digests : digests_sized value.labels ≡ true
+  pub digests : digests_sized value.hash value.labels ≡ true
 
 -- the text spells an item behind a header, which nests at most 4 deep and has at most 100,000 items
 abbrev pub SpellsBehind : List ℕ → Item → List ℕ → Type 0
@@ -69,24 +75,24 @@ SpellsBehind header item text =
     (count : ℕ) × (rest : List ℕ) × (count ≤ 100000) × Encodes 4 item count rest
     × IsText text (header ++ rest)
 
--- the text spells the base value
+-- the text spells the base value, behind the header of its hash
 pub record SpellsBase (value : BaseValue) (text : List ℕ) : Type 0 where
   pub sizes : BaseSizes value
-  pub spelled : SpellsBehind base_header (base_item value) text
+  pub spelled : SpellsBehind (header Base value.hash) (base_item value) text
 
--- The text spells the derived value, whose indexes rise. Its label map may be spelled in any order
--- of numbers; the value has them by rising number.
+-- The text spells the derived value, behind the header of its hash, and its indexes rise. Its label
+-- map may be spelled in any order of numbers; the value has them by rising number.
 pub record SpellsDerived (value : DerivedValue) (text : List ℕ) : Type 0 where
   pub sizes : DerivedSizes value
   pub rising : rise value.indexes ≡ true
-  pub spelled : SpellsBehind derived_header (derived_item value) text
+  pub spelled : SpellsBehind (header Derived value.hash) (derived_item value) text
 
 -- the bytes that are written for a value, its label map by rising number
 abbrev pub base_proof_bytes : BaseValue → List ℕ
-base_proof_bytes value = base_header ++ encoding_of (base_item value)
+base_proof_bytes value = header Base value.hash ++ encoding_of (base_item value)
 
 abbrev pub derived_proof_bytes : DerivedValue → List ℕ
-derived_proof_bytes value = derived_header ++ encoding_of (derived_item value)
+derived_proof_bytes value = header Derived value.hash ++ encoding_of (derived_item value)
 
 -- the value is one of the types of Rust: its byte strings have their lengths, and all else fits
 abbrev pub CanWriteBase : BaseValue → Type 0

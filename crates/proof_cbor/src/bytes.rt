@@ -7,9 +7,11 @@ ghost use Rattle.cbor_core.specs.Internal.Reading.{reading};
 ghost use Rattle.proof_cbor.specs.Internal.Reading.{is_memory, multibase_bytes, item_of, item_behind};
 
 use crate::fault::ValueFault;
+use crate::headers::{Kind, hash_named};
 use base64::DecodeAllocError;
 use base64::engine::general_purpose::URL_SAFE_NO_PAD;
 use cbor_core::{CborFault, Item, decode};
+use digest_mac::Hash;
 use std::alloc::Global;
 
 /// The bytes of a text: `u`, and strict base64url without padding.
@@ -39,17 +41,18 @@ fn item_from(alloc: Global, bytes: &[u8]) -> Result<Item, ValueFault>
     }
 }
 
-/// The item behind a header.
+/// The item behind a header of this kind, and the hash that the header names.
 #[tactic(auto, unfolding(crate::specs::Internal::Reading::item_behind))]
-pub fn item_in(alloc: Global, header: &[u8; 3], bytes: &[u8]) -> Result<Item, ValueFault>
-    ensures { Gives is_memory (λ x. x) result (item_behind header.now bytes.now) }
+pub fn item_in(alloc: Global, kind: Kind, bytes: &[u8]) -> Result<(Hash, Item), ValueFault>
+    ensures { Gives is_memory (λ x. x) result (item_behind kind bytes.now) }
 {
     if bytes.len() < 3 {
         return Err(ValueFault::Header);
     }
     let (front, rest) = bytes.split_at(3);
-    if front != header.as_slice() {
+    let Some(hash) = hash_named(kind, front) else {
         return Err(ValueFault::Header);
-    }
-    item_from(alloc, rest)
+    };
+    let item = item_from(alloc, rest)?;
+    Ok((hash, item))
 }

@@ -5,11 +5,11 @@ ghost use Rattle.base64.specs.GeneralPurpose.{IsBytes};
 ghost use Rattle.cbor_core.specs.Writing.{item_nesting, count_of, keys_rise, encoding_of, fits};
 ghost use Rattle.base_types.specs.Order.{rise};
 ghost use Rattle.proof_cbor.specs.declared.value.MapEntry.{MapEntry};
-ghost use Rattle.proof_cbor.specs.Values.{multibase_text, base_item, derived_item, base_proof_bytes, derived_proof_bytes, CanWriteBase, SpellsBase, SpellsDerived};
+ghost use Rattle.proof_cbor.specs.Values.{multibase_text, base_item, derived_item, digests_sized, base_proof_bytes, derived_proof_bytes, CanWriteBase, SpellsBase, SpellsDerived};
 ghost use Rattle.proof_cbor.specs.Internal.Writing.{CanWriteDerived};
 ghost use Rattle.proof_cbor.specs.Refusals.{ReadsBase, ReadsDerived};
 
-use crate::headers::{BASE_HEADER, DERIVED_HEADER};
+use crate::headers::{Kind, header};
 use crate::items::{item_of_base, item_of_derived};
 use crate::value::{BaseValue, DerivedValue};
 use base_types::{Memory, Text};
@@ -51,7 +51,7 @@ pub fn bytes_of_base(alloc: Global, value: &BaseValue) -> Result<Vec<u8>, Memory
     ensures can_write { IfOk result (λ _. CanWriteBase value.now) }
 {
     let item = item_of_base(alloc, value)?;
-    bytes_behind(alloc, &BASE_HEADER, &item)
+    bytes_behind(alloc, &header(Kind::Base, value.hash), &item)
 }
 
 /// The bytes of a derived value.
@@ -59,12 +59,13 @@ pub fn bytes_of_base(alloc: Global, value: &BaseValue) -> Result<Vec<u8>, Memory
 fn bytes_of_derived(alloc: Global, value: &DerivedValue) -> Result<Vec<u8>, Memory>
     requires labels { rise (map (λ (e : MapEntry). e.number) value.now.labels) ≡ true }
     requires indexes { rise value.now.indexes ≡ true }
+    requires digests { digests_sized value.now.hash value.now.labels ≡ true }
     requires count { count_of (derived_item value.now) ≤ 100000 }
     ensures written { IfOk result (λ bytes. bytes.items ≡ derived_proof_bytes value.now) }
     ensures can_write { IfOk result (λ _. CanWriteDerived value.now) }
 {
     let item = item_of_derived(alloc, value)?;
-    bytes_behind(alloc, &DERIVED_HEADER, &item)
+    bytes_behind(alloc, &header(Kind::Derived, value.hash), &item)
 }
 
 /// The text of a base value with at most 100,000 items (Data Integrity ECDSA Cryptosuites 1.0,
@@ -83,10 +84,12 @@ pub fn encode_base(alloc: Global, value: &BaseValue) -> Result<Text, Memory>
 }
 
 /// The text of a derived value with at most 100,000 items, keys of the label map counted, whose
-/// label numbers and indexes rise (Data Integrity ECDSA Cryptosuites 1.0, 3.5.7).
+/// label numbers and indexes rise and whose digests have the length of its hash (Data Integrity
+/// ECDSA Cryptosuites 1.0, 3.5.7).
 pub fn encode_derived(alloc: Global, value: &DerivedValue) -> Result<Text, Memory>
     requires labels { rise (map (λ (e : MapEntry). e.number) value.now.labels) ≡ true }
     requires indexes { rise value.now.indexes ≡ true }
+    requires digests { digests_sized value.now.hash value.now.labels ≡ true }
     requires count { count_of (derived_item value.now) ≤ 100000 }
     // The text is `u` and base64url of the header and the item.
     ensures written { IfOk result (λ text. text ≡ multibase_text (derived_proof_bytes value.now)) }

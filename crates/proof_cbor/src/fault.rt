@@ -25,13 +25,13 @@ pub enum Part {
 pub enum ValueFault {
     /// The text is not `u` and strict base64url without padding.
     NotMultibase,
-    /// The bytes do not begin with the three bytes of this kind of value.
+    /// The bytes begin with no header of this kind of value, by either hash.
     Header,
     /// What follows is no item of CBOR. Places are counted after the three bytes.
     Cbor(CborFault),
     /// The item is no list of five, or a part or one of its elements has another kind.
     Shape(Part),
-    /// A byte string of the part has another length.
+    /// A byte string of the part has another length: a digest, than its hash says.
     Length(Part),
     /// The indexes do not rise.
     Indexes,

@@ -1,6 +1,6 @@
 //! The item of CBOR that a proof value is.
 
-ghost use Rattle.std.specs.Prelude.{◌≡◌, map, length, true, IfOk, [], ◌∷◌};
+ghost use Rattle.std.specs.Prelude.{◌≡◌, map, true, IfOk, [], ◌∷◌};
 ghost use Rattle.cbor_core.specs.declared.item.Item.TheVariants as v;
 ghost use Rattle.proof_cbor.specs.Values.{all_sized, digests_sized, BaseSizes, DerivedSizes, pair_of, base_item, derived_item};
 
@@ -14,14 +14,6 @@ fn blob(alloc: Global, content: &[u8]) -> Result<Item, Memory>
     ensures { IfOk result (λ item. item ≡ v.Blob content.now) }
 {
     Ok(Item::Blob(Sequence::from_vec(content.to_vec(alloc)?)))
-}
-
-/// A digest.
-fn digest_item(alloc: Global, digest: &[u8; 32]) -> Result<Item, Memory>
-    ensures made { IfOk result (λ item. item ≡ v.Blob digest.now) }
-    ensures sized { length digest.now ≡ 32 }
-{
-    blob(alloc, digest.as_slice())
 }
 
 /// The list of signatures.
@@ -52,12 +44,11 @@ fn pointers_item(alloc: Global, pointers: &[Text]) -> Result<Item, Memory>
 /// The label map.
 #[tactic(auto, using(crate::proofs::Making::making_steps))]
 fn labels_item(alloc: Global, labels: &[MapEntry]) -> Result<Item, Memory>
-    ensures made { IfOk result (λ item. item ≡ v.Map (map pair_of labels.now)) }
-    ensures sized { IfOk result (λ _. digests_sized labels.now ≡ true) }
+    ensures { IfOk result (λ item. item ≡ v.Map (map pair_of labels.now)) }
 {
     let mut pairs = Items::new(alloc);
     for label in labels {
-        let value = digest_item(alloc, &label.digest)?;
+        let value = blob(alloc, label.digest.as_slice())?;
         pairs.push(Pair {
             key: label.number,
             value,
@@ -115,6 +106,7 @@ pub fn item_of_base(alloc: Global, value: &BaseValue) -> Result<Item, Memory>
 /// The item that a derived value is.
 #[tactic(auto, unfolding(crate::specs::Values::derived_item))]
 pub fn item_of_derived(alloc: Global, value: &DerivedValue) -> Result<Item, Memory>
+    requires { digests_sized value.now.hash value.now.labels ≡ true }
     ensures made { IfOk result (λ item. item ≡ derived_item value.now) }
     ensures sizes { IfOk result (λ _. DerivedSizes value.now) }
 {

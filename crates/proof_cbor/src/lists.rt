@@ -2,9 +2,10 @@
 
 ghost use Rattle.std.specs.Prelude.{◌≡◌, [], is_some, length};
 ghost use Rattle.std.specs.Option.{ok_or};
+ghost use Rattle.digest_mac.specs.Digests.{digest_size};
 ghost use Rattle.proof_cbor.specs.declared.fault.ValueFault.TheVariants.{Shape};
 ghost use Rattle.cbor_core.specs.Internal.Results.{Gives};
-ghost use Rattle.proof_cbor.specs.Internal.Reading.{is_memory, each_is, blob_kind, text_kind, whole_kind, entry_kind, digest_size, ones_from, blobs_of, texts_of, wholes_of, label_entries_of};
+ghost use Rattle.proof_cbor.specs.Internal.Reading.{is_memory, each_is, blob_kind, text_kind, whole_kind, entry_kind, digest_length, ones_from, blobs_of, texts_of, wholes_of, label_entries_of};
 
 use crate::fault::{Part, ValueFault};
 use crate::kinds::{blob_in, list_in, map_in, text_in, whole_in};
@@ -12,6 +13,7 @@ use crate::parts::{entry_in, signature_in};
 use crate::value::MapEntry;
 use base_types::{Sequence, Text};
 use cbor_core::{Item, Pair};
+use digest_mac::Hash;
 use std::alloc::Global;
 
 fn texts(alloc: Global, part: Part, items: &[Item]) -> Result<Sequence<Text>, ValueFault>
@@ -113,22 +115,33 @@ fn are_entries(pairs: &[Pair]) -> bool
     true
 }
 
-fn entries(alloc: Global, part: Part, pairs: &[Pair]) -> Result<Sequence<MapEntry>, ValueFault>
+fn entries(
+    alloc: Global,
+    part: Part,
+    hash: Hash,
+    pairs: &[Pair],
+) -> Result<Sequence<MapEntry>, ValueFault>
     ensures { Gives is_memory (λ x. x) result
-        (ones_from entry_kind digest_size part 32 [] pairs.now) }
+        (ones_from entry_kind digest_length part (digest_size hash) [] pairs.now) }
 {
     let mut entries = Sequence::new(alloc);
     for pair in pairs {
-        let entry = entry_in(part, pair)?;
+        let entry = entry_in(part, hash, pair)?;
         entries.push(entry)?;
     }
     Ok(entries)
 }
 
-/// The entries of a map from numbers to digests, of 32 bytes each.
+/// The entries of a map from numbers to digests, each as long as the hash says.
 #[tactic(auto, using(crate::proofs::Each::one_steps))]
-pub fn labels_in(alloc: Global, part: Part, item: &Item) -> Result<Sequence<MapEntry>, ValueFault>
-    ensures { Gives is_memory (λ x. x) result (label_entries_of part 32 item.now) }
+pub fn labels_in(
+    alloc: Global,
+    part: Part,
+    hash: Hash,
+    item: &Item,
+) -> Result<Sequence<MapEntry>, ValueFault>
+    ensures { Gives is_memory (λ x. x) result
+        (label_entries_of part (digest_size hash) item.now) }
 {
     let Some(pairs) = map_in(item) else {
         return Err(ValueFault::Shape(part));
@@ -136,5 +149,5 @@ pub fn labels_in(alloc: Global, part: Part, item: &Item) -> Result<Sequence<MapE
     if !are_entries(pairs) {
         return Err(ValueFault::Shape(part));
     }
-    entries(alloc, part, pairs)
+    entries(alloc, part, hash, pairs)
 }

@@ -2,13 +2,15 @@
 
 ghost use Rattle.std.specs.Prelude.{◌≡◌, ◌∷◌};
 ghost use Rattle.base_types.specs.Order.{rise};
+ghost use Rattle.digest_mac.specs.Digests.{digest_size};
 ghost use Rattle.cbor_core.specs.Internal.Results.{Gives};
-ghost use Rattle.proof_cbor.specs.Internal.Reading.{is_memory, one_of, blob_of, entry_kind, digest_size, five_parts};
+ghost use Rattle.proof_cbor.specs.Internal.Reading.{is_memory, one_of, blob_of, entry_kind, digest_length, five_parts};
 
 use crate::fault::{Part, ValueFault};
 use crate::kinds::{blob_in, list_in};
 use crate::value::MapEntry;
 use cbor_core::{Item, Pair};
+use digest_mac::{Digest, Hash};
 
 /// A signature, of 64 bytes.
 pub fn signature_in(part: Part, item: &Item) -> Result<[u8; 64], ValueFault>
@@ -55,18 +57,17 @@ pub fn secret_in(part: Part, item: &Item) -> Result<[u8; 32], ValueFault>
     Ok(bytes)
 }
 
-/// An entry of a label map: a number and a digest of 32 bytes.
-pub fn entry_in(part: Part, pair: &Pair) -> Result<MapEntry, ValueFault>
-    ensures { Gives is_memory (λ x. x) result (one_of entry_kind digest_size part 32 pair.now) }
+/// An entry of a label map: a number and a digest by this hash.
+pub fn entry_in(part: Part, hash: Hash, pair: &Pair) -> Result<MapEntry, ValueFault>
+    ensures { Gives is_memory (λ x. x) result
+        (one_of entry_kind digest_length part (digest_size hash) pair.now) }
 {
     let Some(content) = blob_in(&pair.value) else {
         return Err(ValueFault::Shape(part));
     };
-    if content.len() != 32 {
+    let Some(digest) = Digest::from_slice(hash, content) else {
         return Err(ValueFault::Length(part));
-    }
-    let mut digest = [0u8; 32];
-    digest.copy_from_slice(content);
+    };
     Ok(MapEntry {
         number: pair.key,
         digest,

@@ -13,6 +13,11 @@ use Rattle.cbor_core.specs.declared.item.Pair.{Pair}
 use Rattle.cbor_core.specs.Internal.Reading.{reading}
 use Rattle.cbor_core.specs.Internal.Results.{◌>>=◌}
 use Rattle.base_types.specs.Order.{rise}
+use Rattle.digest_mac.specs.declared.hash.Hash.{Hash}
+use Rattle.digest_mac.specs.declared.hash.Hash.TheVariants.{Sha256, Sha384}
+use Rattle.digest_mac.specs.Digests.{digest_size}
+use Rattle.proof_cbor.specs.declared.headers.Kind.{Kind}
+use Rattle.proof_cbor.specs.declared.headers.Kind.TheVariants.{Base, Derived}
 use Rattle.proof_cbor.specs.declared.fault.Part.{Part}
 use Rattle.proof_cbor.specs.declared.fault.Part.TheVariants as part
 use Rattle.proof_cbor.specs.declared.fault.ValueFault.{ValueFault}
@@ -20,7 +25,7 @@ use Rattle.proof_cbor.specs.declared.fault.ValueFault.TheVariants as fault
 use Rattle.proof_cbor.specs.declared.value.BaseValue.{BaseValue}
 use Rattle.proof_cbor.specs.declared.value.DerivedValue.{DerivedValue}
 use Rattle.proof_cbor.specs.declared.value.MapEntry.{MapEntry}
-use Rattle.proof_cbor.specs.Values.{base_header, derived_header}
+use Rattle.proof_cbor.specs.Values.{header}
 use Rattle.proof_cbor.specs.Refusals.{Five}
 
 -- whether memory ran out
@@ -78,8 +83,8 @@ abbrev pub entry_kind : Pair Item → Option MapEntry
 entry_kind p = option_map (entry_of p.key) (blob_level (out-Item p.value))
 
 -- the number of bytes of an entry's digest
-abbrev pub digest_size : MapEntry → ℕ
-digest_size e = length e.digest
+abbrev pub digest_length : MapEntry → ℕ
+digest_length e = length e.digest
 
 -- ---- one part
 
@@ -134,7 +139,7 @@ wholes_of at item = do
 abbrev pub label_entries_of : Part → ℕ → Item → Result (List MapEntry) ValueFault
 label_entries_of at n item = do
   pairs ← ok_or (map_level (out-Item item)) (fault.Shape at)
-  ones_of entry_kind digest_size at n pairs
+  ones_of entry_kind digest_length at n pairs
 
 -- ---- the whole
 
@@ -147,8 +152,8 @@ abbrev pub five_parts : Item → Result Five ValueFault
 five_parts item =
     ok_or (option_and_then five_items (list_level (out-Item item))) (fault.Shape part.Array)
 
-unfoldable pub base_of : Item → Result BaseValue ValueFault
-base_of item = do
+unfoldable pub base_of : Hash → Item → Result BaseValue ValueFault
+base_of hash item = do
   five ← five_parts item
   signature ← blob_of part.BaseSignature 64 five.0
   key ← blob_of part.PublicKey 35 five.1
@@ -156,6 +161,7 @@ base_of item = do
   signatures ← blobs_of part.Signatures 64 five.3
   pointers ← texts_of part.Pointers five.4
   Ok (record {
+    hash = hash;
     signature = signature;
     key = key;
     secret = secret;
@@ -163,15 +169,16 @@ base_of item = do
     pointers = pointers;
   })
 
-unfoldable pub derived_of : Item → Result DerivedValue ValueFault
-derived_of item = do
+unfoldable pub derived_of : Hash → Item → Result DerivedValue ValueFault
+derived_of hash item = do
   five ← five_parts item
   signature ← blob_of part.BaseSignature 64 five.0
   key ← blob_of part.PublicKey 35 five.1
   signatures ← blobs_of part.Signatures 64 five.2
-  labels ← label_entries_of part.LabelMap 32 five.3
+  labels ← label_entries_of part.LabelMap (digest_size hash) five.3
   indexes ← wholes_of part.Indexes five.4
   if rise indexes then Ok (record {
+    hash = hash;
     signature = signature;
     key = key;
     signatures = signatures;
@@ -190,28 +197,37 @@ multibase_bytes [] = Err fault.NotMultibase
 multibase_bytes (c ∷ text) =
     if c == 117 then base64_result (decode_of url_safe_no_pad text) else Err fault.NotMultibase
 
--- what follows the three bytes of a header
-abbrev pub behind : List ℕ → List ℕ → Result (List ℕ) ValueFault
-behind header bytes = if bytes_eq (take 3 bytes) header then Ok (drop 3 bytes) else Err fault.Header
+-- the hash by which these bytes are the header of this kind
+abbrev pub hash_named : Kind → List ℕ → Option Hash
+hash_named kind front =
+    if bytes_eq front (header kind Sha256) then Some Sha256
+    else (if bytes_eq front (header kind Sha384) then Some Sha384 else None)
+
+-- the hash that the three bytes of a header name, and what follows them
+abbrev pub behind : Kind → List ℕ → Result (Hash × List ℕ) ValueFault
+behind kind bytes = do
+  hash ← ok_or (hash_named kind (take 3 bytes)) fault.Header
+  Ok (hash, drop 3 bytes)
 
 abbrev pub item_of : Result Item CborFault → Result Item ValueFault
 item_of (Ok item) = Ok item
 item_of (Err e) = Err (fault.Cbor e)
 
--- the item that follows a header
-unfoldable pub item_behind : List ℕ → List ℕ → Result Item ValueFault
-item_behind header bytes = do
-  rest ← behind header bytes
-  item_of (reading rest)
+-- the hash that a header names, and the item that follows it
+unfoldable pub item_behind : Kind → List ℕ → Result (Hash × Item) ValueFault
+item_behind kind bytes = do
+  found ← behind kind bytes
+  item ← item_of (reading found.1)
+  Ok (found.0, item)
 
 unfoldable pub reading_base : List ℕ → Result BaseValue ValueFault
 reading_base text = do
   bytes ← multibase_bytes text
-  item ← item_behind base_header bytes
-  base_of item
+  found ← item_behind Base bytes
+  base_of found.0 found.1
 
 unfoldable pub reading_derived : List ℕ → Result DerivedValue ValueFault
 reading_derived text = do
   bytes ← multibase_bytes text
-  item ← item_behind derived_header bytes
-  derived_of item
+  found ← item_behind Derived bytes
+  derived_of found.0 found.1
