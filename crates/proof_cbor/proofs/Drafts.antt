@@ -1,5 +1,5 @@
 -- Where the signature stands in the bytes of a base value, and how long its text is.
-use Rattle.std.proofs.Common.{◌≡◌, ℕ, zero, suc, ◌+◌, ◌-◌, ◌≤◌, List, [], ◌∷◌, ◌++◌, length, take, drop, map, refl, sym, ap, subst, ◌∙◌, arith, slice_set}
+use Rattle.std.proofs.Common.{◌≡◌, ℕ, zero, suc, ◌+◌, ◌-◌, ◌≤◌, List, [], ◌∷◌, ◌++◌, length, take, drop, map, refl, sym, ap, subst, ◌∙◌, append_assoc, arith, slice_set}
 use Rattle.std.specs.List.{flat_map}
 use Rattle.std.specs.Str.{IsUtf8, IsAscii}
 use Rattle.std.proofs.lemmas.Str.{IsUtf8-from_ascii}
@@ -10,16 +10,29 @@ use Rattle.base64.specs.GeneralPurpose.{encode_of, encoded_size_of}
 use Rattle.base64.specs.Rfc4648.{encode_symbols}
 use Rattle.base64.proofs.RoundTrip.{length-encode_symbols}
 use Rattle.base64.proofs.EngineFacts.{IsAscii-encode_of}
+use Rattle.cbor_core.specs.declared.item.Item.{Item}
 use Rattle.cbor_core.specs.declared.item.Item.TheVariants as v
 use Rattle.cbor_core.specs.Grammar.{head_of}
 use Rattle.cbor_core.specs.Writing.{encoding_of, count_of}
 use Rattle.cbor_core.proofs.Writes.{spelling-List, spelling-Blob}
+use Rattle.digest_mac.specs.declared.hash.Hash.{Hash}
+use Rattle.digest_mac.specs.declared.hash.Hash.TheVariants.{Sha256, Sha384}
+use Rattle.proof_cbor.specs.declared.headers.Kind.TheVariants.{Base}
 use Rattle.proof_cbor.specs.declared.value.BaseValue.{BaseValue}
-use Rattle.proof_cbor.specs.Values.{base_header, base_item, base_proof_bytes, with_signature, multibase_text, IsDraft, CanWriteBase}
+use Rattle.proof_cbor.specs.Values.{header, base_item, base_proof_bytes, with_signature, multibase_text, IsDraft, CanWriteBase}
 
 -- what stands before the signature: the header, the head of the list and the head of the byte string
-abbrev front : List ℕ
-front = 0xd9 ∷ 0x5d ∷ 0x00 ∷ 0x85 ∷ 0x58 ∷ 0x40 ∷ []
+abbrev front : Hash → List ℕ
+front hash = header Base hash ++ 0x85 ∷ 0x58 ∷ 0x40 ∷ []
+
+-- the front has six bytes, whatever follows them
+six_bytes : (hash : Hash) (rest : List ℕ) → take 6 (front hash ++ rest) ≡ front hash
+six_bytes Sha256 rest = refl
+six_bytes Sha384 rest = refl
+
+length_front : (hash : Hash) → length (front hash) ≡ 6
+length_front Sha256 = refl
+length_front Sha384 = refl
 
 -- what stands behind it
 abbrev behind_signature : BaseValue → List ℕ
@@ -29,26 +42,37 @@ heads : (n : ℕ) → n ≡ 64 → (head_of 4 5 ≡ 0x85 ∷ []) × (head_of 2 n
 unfolding head_of
 heads n e = (refl, rw e refl)
 
--- the bytes of a base value are the six fixed ones, those of its signature and those behind it
-pub split_bytes : (value : BaseValue) → length value.signature ≡ 64 → base_proof_bytes value ≡ front ++ (value.signature ++ behind_signature value)
+-- a list of five whose first item is a byte string of 64 bytes is written with these two heads
+pub item_begins : (first : List ℕ) (b c d e : Item) → length first ≡ 64
+    → encoding_of (v.List (v.Blob first ∷ b ∷ c ∷ d ∷ e ∷ [])) ≡ 0x85 ∷ 0x58 ∷ 0x40 ∷ (first ++ flat_map encoding_of (b ∷ c ∷ d ∷ e ∷ []))
+item_begins first b c d e long =
+    let h = heads (length first) long in
+    spelling-List (v.Blob first ∷ b ∷ c ∷ d ∷ e ∷ []) ∙ rw (h.0, spelling-Blob first, h.1) refl
+
+-- the bytes of a base value are the six of its front, those of its signature and those behind it
+pub split_bytes : (value : BaseValue) → length value.signature ≡ 64 → base_proof_bytes value ≡ front value.hash ++ (value.signature ++ behind_signature value)
 unfolding base_item
 split_bytes value long =
-    let h = heads (length value.signature) long in
-    let whole = spelling-List (v.Blob value.signature ∷ v.Blob value.key ∷ v.Blob value.secret ∷ v.List (map v.Blob value.signatures) ∷ v.List (map v.Text value.pointers) ∷ []) in
-    ap (λ (z : List ℕ). base_header ++ z) (whole ∙ rw (h.0, spelling-Blob value.signature, h.1) refl)
+    ap (λ (z : List ℕ). header Base value.hash ++ z)
+    (item_begins value.signature (v.Blob value.key) (v.Blob value.secret) (v.List (map v.Blob value.signatures)) (v.List (map v.Text value.pointers)) long)
+    ∙ sym (append_assoc (header Base value.hash) (0x85 ∷ 0x58 ∷ 0x40 ∷ []) (value.signature ++ behind_signature value))
 
 long_enough : (value : BaseValue) → length value.signature ≡ 64 → 70 ≤ length (base_proof_bytes value)
 long_enough value long =
     let s = ap length (split_bytes value long) in
     let n = length-append value.signature (behind_signature value) in
-    omega (arith, s, n)
+    let f = length-append (front value.hash) (value.signature ++ behind_signature value) in
+    omega (arith, s, n, f, length_front value.hash)
 
 -- a draft with another signature put in is the bytes of the value with that signature
 pub put_bytes : (value : BaseValue) (old new signature : List ℕ) → IsDraft value old → length signature ≡ 64 → new ≡ take 6 old ++ (signature ++ drop 70 old) → new ≡ base_proof_bytes (with_signature value signature)
 put_bytes value old new signature draft long is =
-    let s : old ≡ front ++ (value.signature ++ behind_signature value) = draft.2 ∙ split_bytes value draft.0.0.signature in
-    let first : take 6 old ≡ front = ap (take 6) s in
-    let last : drop 70 old ≡ behind_signature value = ap (drop 70) s ∙ drop_at (front ++ value.signature) (behind_signature value) 70 (omega (arith, draft.0.0.signature)) in
+    let s : old ≡ front value.hash ++ (value.signature ++ behind_signature value) = draft.2 ∙ split_bytes value draft.0.0.signature in
+    let first : take 6 old ≡ front value.hash = ap (take 6) s ∙ six_bytes value.hash (value.signature ++ behind_signature value) in
+    let before : length (front value.hash ++ value.signature) ≡ 70 = omega (arith, length-append (front value.hash) value.signature, length_front value.hash, draft.0.0.signature) in
+    let last : drop 70 old ≡ behind_signature value =
+        ap (drop 70) (s ∙ sym (append_assoc (front value.hash) value.signature (behind_signature value)))
+        ∙ drop_at (front value.hash ++ value.signature) (behind_signature value) 70 before in
     is ∙ rw (first, last) (sym (split_bytes (with_signature value signature) long))
 
 length_encoded : (bytes : List ℕ) → length (encode_of url_safe_no_pad bytes) ≡ encoded_size_of url_safe_no_pad (length bytes)

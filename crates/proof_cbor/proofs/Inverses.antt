@@ -14,13 +14,14 @@ use Rattle.proof_cbor.specs.declared.value.MapEntry.{MapEntry}
 use Rattle.proof_cbor.specs.Refusals.{Five}
 use Rattle.proof_cbor.specs.Values.{all_sized, pair_of}
 use Rattle.cbor_core.specs.Internal.Results.{◌>>=◌}
-use Rattle.proof_cbor.specs.Internal.Reading.{blob_level, text_level, whole_level, list_level, map_level, blob_kind, text_kind, whole_kind, entry_of, entry_kind, digest_size, each_is, ones_of, of_size, blob_of, blobs_of, texts_of, wholes_of, label_entries_of, five_items, five_parts}
+use Rattle.proof_cbor.specs.Internal.Reading.{blob_level, text_level, whole_level, list_level, map_level, blob_kind, text_kind, whole_kind, entry_of, entry_kind, digest_length, each_is, ones_of, of_size, blob_of, blobs_of, texts_of, wholes_of, label_entries_of, five_items, five_parts}
 use Rattle.cbor_core.proofs.Outcomes.{same_ok, ended, went_on}
 use Rattle.proof_cbor.proofs.Each.{parts}
 
 -- ---- results
 
-some_of : {A : Type 0} (o : Option A) (d : ValueFault) (x : A) → ok_or o d ≡ Ok x → o ≡ Some x
+-- a value that was there
+pub some_of : {A : Type 0} (o : Option A) (d : ValueFault) (x : A) → ok_or o d ≡ Ok x → o ≡ Some x
 some_of (Some y) d x e = ap (λ z. Some z) (same_ok y x e)
 some_of None d x e = absurd cc
 
@@ -194,13 +195,13 @@ wholes_again at ns = rw (v.outs-List (map v.Whole ns), each_forth whole_kind v.W
 -- a part that is read as a label map is the map of its entries, and each digest has the size
 pub labels_found : (at : Part) (n : ℕ) (item : Item) (es : List MapEntry) → label_entries_of at n item ≡ Ok es → (item ≡ v.Map (map pair_of es)) × (list_all (λ (e : MapEntry). eqb (length e.digest) n) es ≡ true)
 labels_found at n item es e =
-    let a = went_on (ok_or (map_level (out-Item item)) (fault.Shape at)) (ones_of entry_kind digest_size at n) es e in
-    let p = ones_back entry_kind pair_of digest_size at n entry_back a.0 es a.2 in
+    let a = went_on (ok_or (map_level (out-Item item)) (fault.Shape at)) (ones_of entry_kind digest_length at n) es e in
+    let p = ones_back entry_kind pair_of digest_length at n entry_back a.0 es a.2 in
     (map_back item a.0 (some_of (map_level (out-Item item)) (fault.Shape at) a.0 a.1) ∙ ap v.Map p.0, p.1)
 
 -- a map of entries whose digests each have the size is read as those entries
 pub labels_again : (at : Part) (n : ℕ) (es : List MapEntry) → list_all (λ (e : MapEntry). eqb (length e.digest) n) es ≡ true → label_entries_of at n (v.Map (map pair_of es)) ≡ Ok es
-labels_again at n es all = rw (v.outs-Map (map pair_of es)) (ones_forth entry_kind pair_of digest_size at n entry_forth es all)
+labels_again at n es all = rw (v.outs-Map (map pair_of es)) (ones_forth entry_kind pair_of digest_length at n entry_forth es all)
 
 -- ---- the five parts
 

@@ -3,8 +3,10 @@ pub mod Each
 pub mod Five
 pub mod Rise
 pub mod Inverses
+pub mod Naming
 pub mod Spelled
 pub mod Making
 pub mod Drafts
 pub mod Refusing
 pub mod RefusingTexts
+pub mod Beginnings

@@ -47,28 +47,14 @@ sized_more n cs i c lt is size so_far = list_all_more (λ (x : List ℕ). eqb (l
 pub sized_end : (n : ℕ) (cs : List (List ℕ)) (i : ℕ) → length cs ≤ i → all_sized n (take i cs) ≡ true → all_sized n cs ≡ true
 sized_end n cs i le so_far = ap (all_sized n) (sym (take_all i cs le)) ∙ so_far
 
--- a label that is read past the end of a list
-abbrev pub no_label : MapEntry
-no_label = record { number = 0; digest = [] }
-
 abbrev pub pair_at : ℕ → Item → Pair Item
 pair_at key value = record { key = key; value = value }
 
--- with the pair of the next label behind it, whose digest has 32 bytes, one label more is made
-pub labels_more : (es : List MapEntry) (i : ℕ) (done new : List (Pair Item)) (value : Item) (digest : List ℕ) → i < length es → digest ≡ (get_or es i no_label).digest → value ≡ v.Blob digest → length digest ≡ 32 → new ≡ done ++ pair_at (get_or es i no_label).number value ∷ []
-    → (done ≡ map pair_of (take i es)) × (digests_sized (take i es) ≡ true) → (new ≡ map pair_of (take (i + 1) es)) × (digests_sized (take (i + 1) es) ≡ true)
-labels_more es i done new value digest lt same is size pushed so_far =
-    let e = get_or es i no_label in
-    let one : take (i + 1) es ≡ take i es ++ e ∷ [] = take_more es i no_label lt in
-    let two : map pair_of (take (i + 1) es) ≡ map pair_of (take i es) ++ pair_of e ∷ [] = ap (map pair_of) one ∙ map-append pair_of (take i es) (e ∷ []) in
-    let entry : pair_at e.number value ≡ pair_of e = ap (pair_at e.number) (is ∙ ap v.Blob same) in
-    let all : done ++ pair_at e.number value ∷ [] ≡ map pair_of (take i es) ++ pair_of e ∷ [] = cc (so_far.0, entry) in
-    let long : eqb (length e.digest) 32 ≡ true = eq-eqb (length e.digest) 32 (ap length (sym same) ∙ size) in
-    (pushed ∙ all ∙ sym two, list_all_more (λ (x : MapEntry). eqb (length x.digest) 32) es i no_label lt ∙ rw (so_far.1, long) refl)
-
--- past the last label, all digests of the list have 32 bytes
-pub digests_end : (es : List MapEntry) (i : ℕ) → length es ≤ i → digests_sized (take i es) ≡ true → digests_sized es ≡ true
-digests_end es i le so_far = ap digests_sized (sym (take_all i es le)) ∙ so_far
+-- with the pair of the next label behind it, one label more is made
+pub labels_more : (es : List MapEntry) (i : ℕ) (e : MapEntry) (done new : List (Pair Item)) (value : Item) → i < length es → e ≡ get_or es i e → value ≡ v.Blob e.digest → new ≡ done ++ pair_at e.number value ∷ []
+    → done ≡ map pair_of (take i es) → new ≡ map pair_of (take (i + 1) es)
+labels_more es i e done new value lt is made pushed so_far =
+    pushed ∙ ap (λ (x : Item). done ++ pair_at e.number x ∷ []) made ∙ making_more pair_of es i e done lt is so_far
 
 -- ---- what may be written
 
@@ -212,6 +198,11 @@ base_count text (Err e) s = tt
 pub derived_count : (text : List ℕ) (result : Result DerivedValue ValueFault) → IfOk result (λ (value : DerivedValue). SpellsDerived value text) → IfOk result (λ (value : DerivedValue). count_of (derived_item value) ≤ 100000)
 derived_count text (Ok value) s = let k = kept 4 (derived_item value) s.spelled.0 s.spelled.1 s.spelled.3 in omega (arith, k.counted, s.spelled.2)
 derived_count text (Err e) s = tt
+
+-- the digests of a derived value that was read have the length of its hash
+pub derived_digests : (text : List ℕ) (result : Result DerivedValue ValueFault) → IfOk result (λ (value : DerivedValue). SpellsDerived value text) → IfOk result (λ (value : DerivedValue). digests_sized value.hash value.labels ≡ true)
+derived_digests text (Ok value) s = s.sizes.digests
+derived_digests text (Err e) s = tt
 
 -- the indexes of a derived value that was read rise
 pub derived_indexes : (text : List ℕ) (result : Result DerivedValue ValueFault) → IfOk result (λ (value : DerivedValue). SpellsDerived value text) → IfOk result (λ (value : DerivedValue). rise value.indexes ≡ true)

@@ -10,13 +10,15 @@ use Rattle.cbor_core.specs.declared.item.Pair.{Pair}
 use Rattle.cbor_core.specs.Internal.Results.{◌>>=◌}
 use Rattle.cbor_core.proofs.Outcomes.{same_err, stopped, goes_on}
 use Rattle.base_types.specs.Order.{rise}
+use Rattle.digest_mac.specs.declared.hash.Hash.{Hash}
+use Rattle.digest_mac.specs.Digests.{digest_size}
 use Rattle.proof_cbor.specs.declared.fault.Part.{Part}
 use Rattle.proof_cbor.specs.declared.fault.Part.TheVariants as part
 use Rattle.proof_cbor.specs.declared.fault.ValueFault.{ValueFault}
 use Rattle.proof_cbor.specs.declared.fault.ValueFault.TheVariants as fault
 use Rattle.proof_cbor.specs.Values.{pair_of}
 use Rattle.proof_cbor.specs.Refusals.{IsBlob, IsBlobOf, AreBlobs, AreBlobsOf, IsLabelMap, IsDigestMap, AreTexts, AreWholes, AreRising, RefusesPart, Five, list_of, RefusesBaseParts, RefusesDerivedParts, RefusesFive}
-use Rattle.proof_cbor.specs.Internal.Reading.{list_level, map_level, blob_kind, text_kind, whole_kind, entry_kind, digest_size, each_is, ones_of, of_size, blob_of, blobs_of, texts_of, wholes_of, label_entries_of, five_items, five_parts, base_of, derived_of}
+use Rattle.proof_cbor.specs.Internal.Reading.{list_level, map_level, blob_kind, text_kind, whole_kind, entry_kind, digest_length, each_is, ones_of, of_size, blob_of, blobs_of, texts_of, wholes_of, label_entries_of, five_items, five_parts, base_of, derived_of}
 use Rattle.proof_cbor.proofs.Inverses.{blob_back, text_back, whole_back, list_back, map_back, entry_back, blob_forth, text_forth, whole_forth, entry_forth, each_back, each_forth, parts_found, parts_again, wholes_found}
 
 -- what looking up one part answers, as the relation has it
@@ -131,9 +133,9 @@ blobs_part : (at : Part) (n : ℕ) (item : Item) → IsPart at (AreBlobs item) (
 unfolding Kind Lengths
 blobs_part at n item = many_by blob_kind v.Blob v.List (λ (i : Item). list_level (out-Item i)) length list_back list_forth blob_back blob_forth at n item (list_level (out-Item item)) refl
 
-labels_part : (at : Part) (item : Item) → IsPart at (IsLabelMap item) (IsDigestMap item) (label_entries_of at 32 item)
+labels_part : (at : Part) (hash : Hash) (item : Item) → IsPart at (IsLabelMap item) (IsDigestMap hash item) (label_entries_of at (digest_size hash) item)
 unfolding Kind Lengths
-labels_part at item = many_by entry_kind pair_of v.Map (λ (i : Item). map_level (out-Item i)) digest_size map_back map_forth entry_back entry_forth at 32 item (map_level (out-Item item)) refl
+labels_part at hash item = many_by entry_kind pair_of v.Map (λ (i : Item). map_level (out-Item i)) digest_length map_back map_forth entry_back entry_forth at (digest_size hash) item (map_level (out-Item item)) refl
 
 texts_part : (at : Part) (item : Item) → IsPart at (AreTexts item) (AreTexts item) (texts_of at item)
 unfolding Kind
@@ -181,9 +183,9 @@ five_read item five is = ap five_parts is ∙ parts_again five.0 five.1 five.2 f
 -- ---- a base value
 
 -- a fault that reading an item as a base value ends with is one that the relation refuses it for
-pub base_stops : (item : Item) (e : ValueFault) → base_of item ≡ Err e → RefusesFive RefusesBaseParts item e
+pub base_stops : (hash : Hash) (item : Item) (e : ValueFault) → base_of hash item ≡ Err e → RefusesFive RefusesBaseParts item e
 unfolding base_of
-base_stops item e h = elim (stopped (five_parts item) _ e h) [
+base_stops hash item e h = elim (stopped (five_parts item) _ e h) [
   | inl p ↦ inl (five_stops item e p)
   | inr p ↦
       let five = p.0 in
@@ -202,10 +204,10 @@ base_stops item e h = elim (stopped (five_parts item) _ e h) [
 ]
 
 -- an item that the relation refuses as a base value is read with that fault
-pub base_refused : (item : Item) (e : ValueFault) → RefusesFive RefusesBaseParts item e → base_of item ≡ Err e
+pub base_refused : (hash : Hash) (item : Item) (e : ValueFault) → RefusesFive RefusesBaseParts item e → base_of hash item ≡ Err e
 unfolding base_of
-base_refused item e (inl s) = rw (five_refused item (five_parts item) refl s.0, s.1) refl
-base_refused item e (inr s) =
+base_refused hash item e (inl s) = rw (five_refused item (five_parts item) refl s.0, s.1) refl
+base_refused hash item e (inr s) =
     let five = s.0 in
     goes_on (five_parts item) _ five (five_read item five s.1) ∙
     part_refused part.BaseSignature _ _ (blob_of part.BaseSignature 64 five.0) _ e _ (blob_part part.BaseSignature 64 five.0) (λ _ _ h1.
@@ -217,9 +219,9 @@ base_refused item e (inr s) =
 -- ---- a derived value
 
 -- a fault that reading an item as a derived value ends with is one the relation refuses it for
-pub derived_stops : (item : Item) (e : ValueFault) → derived_of item ≡ Err e → RefusesFive RefusesDerivedParts item e
+pub derived_stops : (hash : Hash) (item : Item) (e : ValueFault) → derived_of hash item ≡ Err e → RefusesFive (RefusesDerivedParts hash) item e
 unfolding derived_of
-derived_stops item e h = elim (stopped (five_parts item) _ e h) [
+derived_stops hash item e h = elim (stopped (five_parts item) _ e h) [
   | inl p ↦ inl (five_stops item e p)
   | inr p ↦
       let five = p.0 in
@@ -229,7 +231,7 @@ derived_stops item e h = elim (stopped (five_parts item) _ e h) [
         part_stops part.BaseSignature _ _ (blob_of part.BaseSignature 64 five.0) _ e _ (blob_part part.BaseSignature 64 five.0) (λ _ _ h1.
             part_stops part.PublicKey _ _ (blob_of part.PublicKey 35 five.1) _ e _ (blob_part part.PublicKey 35 five.1) (λ _ _ h2.
             part_stops part.Signatures _ _ (blobs_of part.Signatures 64 five.2) _ e _ (blobs_part part.Signatures 64 five.2) (λ _ _ h3.
-            part_stops part.LabelMap _ _ (label_entries_of part.LabelMap 32 five.3) _ e _ (labels_part part.LabelMap five.3) (λ _ _ h4.
+            part_stops part.LabelMap _ _ (label_entries_of part.LabelMap (digest_size hash) five.3) _ e _ (labels_part part.LabelMap hash five.3) (λ _ _ h4.
             elim (stopped (wholes_of part.Indexes five.4) _ e h4) [
               | inl q ↦ inl (kind_stops part.Indexes (AreWholes five.4) (wholes_of part.Indexes five.4) e (wholes_part part.Indexes five.4) q)
               | inr q ↦ inr (rising_stops five.4 q.0 e q.1 _ q.2)
@@ -249,16 +251,16 @@ derived_stops item e h = elim (stopped (five_parts item) _ e h) [
     rising_stops item numbers e ok x h = rising_by item numbers e x (rise numbers) refl (wholes_found part.Indexes item numbers ok) h
 
 -- an item that the relation refuses as a derived value is read with that fault
-pub derived_refused : (item : Item) (e : ValueFault) → RefusesFive RefusesDerivedParts item e → derived_of item ≡ Err e
+pub derived_refused : (hash : Hash) (item : Item) (e : ValueFault) → RefusesFive (RefusesDerivedParts hash) item e → derived_of hash item ≡ Err e
 unfolding derived_of
-derived_refused item e (inl s) = rw (five_refused item (five_parts item) refl s.0, s.1) refl
-derived_refused item e (inr s) =
+derived_refused hash item e (inl s) = rw (five_refused item (five_parts item) refl s.0, s.1) refl
+derived_refused hash item e (inr s) =
     let five = s.0 in
     goes_on (five_parts item) _ five (five_read item five s.1) ∙
     part_refused part.BaseSignature _ _ (blob_of part.BaseSignature 64 five.0) _ e _ (blob_part part.BaseSignature 64 five.0) (λ _ _ h1.
     part_refused part.PublicKey _ _ (blob_of part.PublicKey 35 five.1) _ e _ (blob_part part.PublicKey 35 five.1) (λ _ _ h2.
     part_refused part.Signatures _ _ (blobs_of part.Signatures 64 five.2) _ e _ (blobs_part part.Signatures 64 five.2) (λ _ _ h3.
-    part_refused part.LabelMap _ _ (label_entries_of part.LabelMap 32 five.3) _ e _ (labels_part part.LabelMap five.3) (λ _ _ h4. elim h4 [
+    part_refused part.LabelMap _ _ (label_entries_of part.LabelMap (digest_size hash) five.3) _ e _ (labels_part part.LabelMap hash five.3) (λ _ _ h4. elim h4 [
       | inl q ↦ rw (kind_refused part.Indexes (AreWholes five.4) (wholes_of part.Indexes five.4) (wholes_part part.Indexes five.4) q.0, q.1) refl
       | inr q ↦
           let read = kind_passed part.Indexes (AreWholes five.4) (wholes_of part.Indexes five.4) (wholes_part part.Indexes five.4) q.0 in

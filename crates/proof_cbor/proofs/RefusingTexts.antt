@@ -1,10 +1,7 @@
 -- A text is refused by the relation exactly where reading it ends with this fault.
-use Rattle.std.proofs.Common.{◌≡◌, ◌≢◌, ℕ, ◌+◌, ◌<◌, Bool, true, false, eqb, List, [], ◌∷◌, ◌++◌, length, take, drop, Result, Ok, Err, refl, sym, ap, subst, ◌∙◌, inl, inr}
+use Rattle.std.proofs.Common.{◌≡◌, ◌≢◌, ℕ, ◌+◌, ◌<◌, Bool, true, false, eqb, List, [], ◌∷◌, ◌++◌, take, Result, Ok, Err, refl, sym, ap, subst, ◌∙◌, inl, inr}
 use Rattle.std.specs.Prelude.{◌⊎◌}
-use Rattle.std.specs.Str.{bytes_eq}
-use Rattle.std.proofs.lemmas.Bool.{true≢false}
-use Rattle.std.proofs.lemmas.Slice.Eq.{bytes_eq-Decides}
-use Rattle.std.proofs.lemmas.List.{get_or-drop, take_at, drop_at}
+use Rattle.std.proofs.lemmas.List.{get_or-drop}
 use Rattle.base_types.proofs.Options.{took}
 use Rattle.base64.specs.Engines.{url_safe_no_pad}
 use Rattle.base64.specs.GeneralPurpose.{IsBytes, decode_of}
@@ -14,18 +11,22 @@ use Rattle.cbor_core.specs.declared.fault.CborFault.{CborFault}
 use Rattle.cbor_core.specs.Internal.Results.{◌>>=◌, Unless, Gives, Fails}
 use Rattle.cbor_core.specs.Internal.Reading.{reading}
 use Rattle.cbor_core.specs.Refusals.{UnlessMemory, ReadsAs}
-use Rattle.cbor_core.proofs.Outcomes.{same_ok, same_err, stopped, ended, goes_on}
+use Rattle.cbor_core.proofs.Outcomes.{same_ok, same_err, stopped, goes_on}
 use Rattle.cbor_core.proofs.Whole.{read_refused, refused_read, read_as}
 use Rattle.cbor_core.specs.declared.fault.CborFault.TheVariants as g
+use Rattle.digest_mac.specs.declared.hash.Hash.{Hash}
+use Rattle.proof_cbor.specs.declared.headers.Kind.{Kind}
+use Rattle.proof_cbor.specs.declared.headers.Kind.TheVariants.{Base, Derived}
 use Rattle.proof_cbor.specs.declared.fault.ValueFault.{ValueFault}
 use Rattle.proof_cbor.specs.declared.fault.ValueFault.TheVariants as f
 use Rattle.proof_cbor.specs.declared.value.BaseValue.{BaseValue}
 use Rattle.proof_cbor.specs.declared.value.DerivedValue.{DerivedValue}
-use Rattle.proof_cbor.specs.Values.{base_header, derived_header, IsText}
+use Rattle.proof_cbor.specs.Values.{header, IsText}
 use Rattle.proof_cbor.specs.Refusals.{Five, RefusesBaseParts, RefusesDerivedParts, RefusesFive, RefusesBytes, RefusesMultibase, ReadsBase, ReadsDerived}
 use Rattle.proof_cbor.specs.Internal.Reading.{is_memory, base_of, derived_of, base64_result, multibase_bytes, behind, item_of, item_behind, reading_base, reading_derived}
+use Rattle.proof_cbor.proofs.Naming.{behind_again, behind_found, header_missing, no_header}
 use Rattle.proof_cbor.proofs.Refusing.{base_stops, base_refused, derived_stops, derived_refused}
-use Rattle.proof_cbor.proofs.Spelled.{bytes_again, item_again, item_found, front_back, base_read, derived_read, base_spelled, derived_spelled}
+use Rattle.proof_cbor.proofs.Spelled.{bytes_again, item_again, item_found, base_read, derived_read, base_spelled, derived_spelled}
 
 -- ---- what reading refuses, the relation does
 
@@ -44,54 +45,63 @@ no_item : (r : Result Item CborFault) (e : ValueFault) → item_of r ≡ Err e �
 no_item (Ok item) e h = absurd cc
 no_item (Err d) e h = (d, refl, sym (same_err (f.Cbor d) e h))
 
-bytes_stop : (header : List ℕ) (Refuses : Five → ValueFault → Type 0) (bytes : List ℕ) (e : ValueFault) → length header ≡ 3 → IsBytes bytes → item_behind header bytes ≡ Err e → RefusesBytes header Refuses bytes e
+abbrev with_hash : Hash → Item → Result (Hash × Item) ValueFault
+with_hash hash item = Ok (hash, item)
+
+item_stopped : (r : Result Item ValueFault) (hash : Hash) (e : ValueFault) → (r >>= with_hash hash) ≡ Err e → r ≡ Err e
+item_stopped (Ok i) hash e h = absurd cc
+item_stopped (Err d) hash e h = let same : d ≡ e = cc in ap (λ (x : ValueFault). Err x) same
+
+bytes_stop : (kind : Kind) (Refuses : Hash → Five → ValueFault → Type 0) (bytes : List ℕ) (e : ValueFault) → IsBytes bytes → item_behind kind bytes ≡ Err e → RefusesBytes kind Refuses bytes e
 unfolding item_behind
-bytes_stop header Refuses bytes e three small h =
-    let rest_of : Result (List ℕ) ValueFault = Ok (drop 3 bytes) in
-    elim (stopped (behind header bytes) (λ (rest : List ℕ). item_of (reading rest)) e h) [
-      | inl p ↦ elim (took (bytes_eq (take 3 bytes) header) rest_of (Err f.Header) (Err e) p) [
-        | inl q ↦ absurd (cc q.1)
-        | inr q ↦ inl (
-          (λ rest is. true≢false (sym ((bytes_eq-Decides (take 3 bytes) header).1 (ap (take 3) is ∙ take_at header rest 3 three)) ∙ q.0)),
-          sym (same_err f.Header e q.1),
-        )
-      ]
+bytes_stop kind Refuses bytes e small h =
+    elim (stopped (behind kind bytes) (λ (f : Hash × List ℕ). item_of (reading f.1) >>= with_hash f.0) e h) [
+      | inl p ↦ inl (no_header kind bytes e p)
       | inr p ↦
-          let q = ended (bytes_eq (take 3 bytes) header) f.Header (drop 3 bytes) p.0 p.1 in
-          let whole : bytes ≡ header ++ p.0 = front_back header bytes p.0 ((bytes_eq-Decides (take 3 bytes) header).0 q.0) q.1 in
-          let fits : IsBytes p.0 = subst IsBytes q.1 (λ (i : ℕ). subst (λ (n : ℕ). n < 256) (sym (get_or-drop 3 bytes i 0)) (small (3 + i))) in
-          let d = no_item (reading p.0) e p.2 in
-          inr (p.0, whole, inl (d.0, read_refused p.0 d.0 fits d.1, d.2))
+          let found = behind_found kind bytes p.0 p.1 in
+          let fits : IsBytes p.0.1 = subst IsBytes found.1 (λ (i : ℕ). subst (λ (n : ℕ). n < 256) (sym (get_or-drop 3 bytes i 0)) (small (3 + i))) in
+          let d = no_item (reading p.0.1) e (item_stopped (item_of (reading p.0.1)) p.0.0 e p.2) in
+          inr (p.0.0, p.0.1, found.0, inl (d.0, read_refused p.0.1 d.0 fits d.1, d.2))
     ]
 
-module _ (header : List ℕ) (three : length header ≡ 3) (Refuses : Five → ValueFault → Type 0) where
-  pub text_stops : (text : List ℕ) (e : ValueFault) → multibase_bytes text ≡ Err e → RefusesMultibase header Refuses text e
+module _ (kind : Kind) (Refuses : Hash → Five → ValueFault → Type 0) where
+  pub text_stops : (text : List ℕ) (e : ValueFault) → multibase_bytes text ≡ Err e → RefusesMultibase kind Refuses text e
   text_stops text e h = inl ((λ bytes t. absurd (let both = sym (bytes_again text bytes t) ∙ h in cc)), no_multibase text e h)
 
-  pub item_stops : (text bytes : List ℕ) (e : ValueFault) → IsText text bytes → item_behind header bytes ≡ Err e → RefusesMultibase header Refuses text e
-  item_stops text bytes e t h = inr (bytes, t, bytes_stop header Refuses bytes e three t.0 h)
+  pub item_stops : (text bytes : List ℕ) (e : ValueFault) → IsText text bytes → item_behind kind bytes ≡ Err e → RefusesMultibase kind Refuses text e
+  item_stops text bytes e t h = inr (bytes, t, bytes_stop kind Refuses bytes e t.0 h)
 
-  pub parts_stop : (text bytes : List ℕ) (item : Item) (e : ValueFault) → IsText text bytes → item_behind header bytes ≡ Ok item → RefusesFive Refuses item e → RefusesMultibase header Refuses text e
-  parts_stop text bytes item e t h r =
-      let s = item_found header text bytes item t h in
-      inr (header ++ s.1, s.4, inr (s.1, refl, inr (item, s.0, s.2, s.3, r)))
+  pub parts_stop : (text bytes : List ℕ) (hash : Hash) (item : Item) (e : ValueFault) → IsText text bytes → item_behind kind bytes ≡ Ok (hash, item) → RefusesFive (Refuses hash) item e → RefusesMultibase kind Refuses text e
+  parts_stop text bytes hash item e t h r =
+      let s = item_found kind text bytes hash item t h in
+      inr (header kind hash ++ s.1, s.4, inr (hash, s.1, refl, inr (item, s.0, s.2, s.3, r)))
 
 -- ---- what the relation refuses, reading does
 
-module _ {V : Type 0} (header : List ℕ) (three : length header ≡ 3) (Refuses : Five → ValueFault → Type 0) (value_of : Item → Result V ValueFault) (refused : (item : Item) (e : ValueFault) → RefusesFive Refuses item e → value_of item ≡ Err e) where
-  header_missing : (bytes : List ℕ) (b : Bool) → bytes_eq (take 3 bytes) header ≡ b → ((rest : List ℕ) → bytes ≢ header ++ rest) → behind header bytes ≡ Err f.Header
-  header_missing bytes true is none = absurd (none (drop 3 bytes) (front_back header bytes (drop 3 bytes) ((bytes_eq-Decides (take 3 bytes) header).0 is) refl))
-  header_missing bytes false is none = rw is refl
+module _ {V : Type 0} (kind : Kind) (Refuses : Hash → Five → ValueFault → Type 0) (value_of : Hash → Item → Result V ValueFault)
+    (refused : (hash : Hash) (item : Item) (e : ValueFault) → RefusesFive (Refuses hash) item e → value_of hash item ≡ Err e) where
+  -- what is read of what was found behind a header, and of the item
+  abbrev read_item : Hash × List ℕ → Result (Hash × Item) ValueFault
+  read_item f = item_of (reading f.1) >>= with_hash f.0
 
-  header_there : (rest : List ℕ) → behind header (header ++ rest) ≡ Ok rest
-  header_there rest = rw (take_at header rest 3 three, drop_at header rest 3 three, (bytes_eq-Decides header header).1 refl) refl
+  abbrev read_value : Hash × Item → Result V ValueFault
+  read_value f = value_of f.0 f.1
 
-  bytes_refused : (bytes : List ℕ) (e : ValueFault) → RefusesBytes header Refuses bytes e → (item_behind header bytes >>= value_of) ≡ Err e
+  bytes_refused : (bytes : List ℕ) (e : ValueFault) → RefusesBytes kind Refuses bytes e → (item_behind kind bytes >>= read_value) ≡ Err e
   unfolding item_behind
-  bytes_refused bytes e (inl s) = rw (header_missing bytes (bytes_eq (take 3 bytes) header) refl s.0, s.1) refl
-  bytes_refused bytes e (inr s) = elim (s.2) [
-    | inl r ↦ rw (s.1, header_there s.0, refused_read s.0 r.0 r.1, r.2) refl
-    | inr r ↦ rw s.1 (goes_on (item_behind header (header ++ s.0)) value_of r.0 (item_again header s.0 r.0 r.1 three r.2 r.3) ∙ refused r.0 e r.4)
+  bytes_refused bytes e (inl s) =
+      ap (λ (r : Result (Hash × List ℕ) ValueFault). (r >>= read_item) >>= read_value) (header_missing kind bytes s.0)
+      ∙ ap (λ (d : ValueFault). Err d) (sym s.1)
+  bytes_refused bytes e (inr s) = elim (s.3) [
+    | inl r ↦
+        ap (λ (b : List ℕ). item_behind kind b >>= read_value) s.2
+        ∙ ap (λ (x : Result (Hash × List ℕ) ValueFault). (x >>= read_item) >>= read_value) (behind_again kind s.0 s.1)
+        ∙ ap (λ (x : Result Item CborFault). (item_of x >>= with_hash s.0) >>= read_value) (refused_read s.1 r.0 r.1)
+        ∙ ap (λ (d : ValueFault). Err d) (sym r.2)
+    | inr r ↦
+        ap (λ (b : List ℕ). item_behind kind b >>= read_value) s.2
+        ∙ goes_on (item_behind kind (header kind s.0 ++ s.1)) read_value (s.0, r.0) (item_again kind s.0 s.1 r.0 r.1 r.2 r.3)
+        ∙ refused s.0 r.0 e r.4
   ]
 
 -- ---- what a text is
@@ -108,15 +118,15 @@ seen_once text read r s (inr x) (inr y) = x.1 ∙ sym y.1
 
 base_seen : (text : List ℕ) (r : Result BaseValue ValueFault) → ReadsBase text r → IsSeen text (reading_base text) r
 unfolding reading_base
-base_seen text (Ok value) s = inl ((base_header ++ s.spelled.1, s.spelled.4), base_read text value s)
+base_seen text (Ok value) s = inl ((header Base value.hash ++ s.spelled.1, s.spelled.4), base_read text value s)
 base_seen text (Err e) (inl s) = inr (s.0, ap (λ (d : ValueFault). Err d) s.1)
-base_seen text (Err e) (inr s) = inl ((s.0, s.1), goes_on (multibase_bytes text) _ s.0 (bytes_again text s.0 s.1) ∙ bytes_refused base_header refl RefusesBaseParts base_of base_refused s.0 e s.2)
+base_seen text (Err e) (inr s) = inl ((s.0, s.1), goes_on (multibase_bytes text) _ s.0 (bytes_again text s.0 s.1) ∙ bytes_refused Base (λ _. RefusesBaseParts) base_of base_refused s.0 e s.2)
 
 derived_seen : (text : List ℕ) (r : Result DerivedValue ValueFault) → ReadsDerived text r → IsSeen text (reading_derived text) r
 unfolding reading_derived
-derived_seen text (Ok value) s = inl ((derived_header ++ s.spelled.1, s.spelled.4), derived_read text value s)
+derived_seen text (Ok value) s = inl ((header Derived value.hash ++ s.spelled.1, s.spelled.4), derived_read text value s)
 derived_seen text (Err e) (inl s) = inr (s.0, ap (λ (d : ValueFault). Err d) s.1)
-derived_seen text (Err e) (inr s) = inl ((s.0, s.1), goes_on (multibase_bytes text) _ s.0 (bytes_again text s.0 s.1) ∙ bytes_refused derived_header refl RefusesDerivedParts derived_of derived_refused s.0 e s.2)
+derived_seen text (Err e) (inr s) = inl ((s.0, s.1), goes_on (multibase_bytes text) _ s.0 (bytes_again text s.0 s.1) ∙ bytes_refused Derived RefusesDerivedParts derived_of derived_refused s.0 e s.2)
 
 -- a text is one thing as a base value, and as a derived value
 pub one_base : (text : List ℕ) (r s : Result BaseValue ValueFault) → ReadsBase text r → ReadsBase text s → r ≡ s
@@ -142,14 +152,14 @@ pub fails_as : {A B : Type 0} (e : ValueFault) (read : Result A ValueFault) (res
 fails_as e read result is h ne = subst (λ (b : Bool). Unless b (read ≡ Err e)) (not_memory e (λ same. ne (is ∙ (λ i. Err (same i))))) h
 
 -- what a call answers for the item behind the header, but for memory, is what a base text is
-pub base_reads : (text bytes : List ℕ) (item : Item) (result : Result BaseValue ValueFault) → IsText text bytes → item_behind base_header bytes ≡ Ok item → Gives is_memory (λ x. x) result (base_of item) → result ≢ Err f.Memory → ReadsBase text result
-base_reads text bytes item (Ok value) t i g ne = base_spelled text bytes item value t i g
-base_reads text bytes item (Err e) t i g ne = parts_stop base_header refl RefusesBaseParts text bytes item e t i (base_stops item e (fails_as e (base_of item) (Err e) refl g ne))
+pub base_reads : (text bytes : List ℕ) (hash : Hash) (item : Item) (result : Result BaseValue ValueFault) → IsText text bytes → item_behind Base bytes ≡ Ok (hash, item) → Gives is_memory (λ x. x) result (base_of hash item) → result ≢ Err f.Memory → ReadsBase text result
+base_reads text bytes hash item (Ok value) t i g ne = base_spelled text bytes hash item value t i g
+base_reads text bytes hash item (Err e) t i g ne = parts_stop Base (λ _. RefusesBaseParts) text bytes hash item e t i (base_stops hash item e (fails_as e (base_of hash item) (Err e) refl g ne))
 
 -- what a call answers for the item behind the header, but for memory, is what a derived text is
-pub derived_reads : (text bytes : List ℕ) (item : Item) (result : Result DerivedValue ValueFault) → IsText text bytes → item_behind derived_header bytes ≡ Ok item → Gives is_memory (λ x. x) result (derived_of item) → result ≢ Err f.Memory → ReadsDerived text result
-derived_reads text bytes item (Ok value) t i g ne = derived_spelled text bytes item value t i g
-derived_reads text bytes item (Err e) t i g ne = parts_stop derived_header refl RefusesDerivedParts text bytes item e t i (derived_stops item e (fails_as e (derived_of item) (Err e) refl g ne))
+pub derived_reads : (text bytes : List ℕ) (hash : Hash) (item : Item) (result : Result DerivedValue ValueFault) → IsText text bytes → item_behind Derived bytes ≡ Ok (hash, item) → Gives is_memory (λ x. x) result (derived_of hash item) → result ≢ Err f.Memory → ReadsDerived text result
+derived_reads text bytes hash item (Ok value) t i g ne = derived_spelled text bytes hash item value t i g
+derived_reads text bytes hash item (Err e) t i g ne = parts_stop Derived RefusesDerivedParts text bytes hash item e t i (derived_stops hash item e (fails_as e (derived_of hash item) (Err e) refl g ne))
 
 -- the answer of a call that is what the text is
 pub base_exact : (text : List ℕ) (result outcome : Result BaseValue ValueFault) → (result ≢ Err f.Memory → ReadsBase text result) → ReadsBase text outcome → UnlessMemory f.Memory outcome result
@@ -176,16 +186,16 @@ pub ruleset item_steps = (read_ok, read_err)
 
 -- a fault of the text that is not memory is what the text is as a base value
 pub base_text_reads : (text : List ℕ) (e : ValueFault) (result : Result BaseValue ValueFault) → result ≡ Err e → Fails is_memory e (multibase_bytes text) → result ≢ Err f.Memory → ReadsBase text result
-base_text_reads text e result is h ne = subst (ReadsBase text) (sym is) (text_stops base_header refl RefusesBaseParts text e (fails_as e (multibase_bytes text) result is h ne))
+base_text_reads text e result is h ne = subst (ReadsBase text) (sym is) (text_stops Base (λ _. RefusesBaseParts) text e (fails_as e (multibase_bytes text) result is h ne))
 
 -- a fault of the bytes of a text that is not memory is what the text is as a base value
-pub base_item_reads : (text bytes : List ℕ) (e : ValueFault) (result : Result BaseValue ValueFault) → result ≡ Err e → IsText text bytes → Fails is_memory e (item_behind base_header bytes) → result ≢ Err f.Memory → ReadsBase text result
-base_item_reads text bytes e result is t h ne = subst (ReadsBase text) (sym is) (item_stops base_header refl RefusesBaseParts text bytes e t (fails_as e (item_behind base_header bytes) result is h ne))
+pub base_item_reads : (text bytes : List ℕ) (e : ValueFault) (result : Result BaseValue ValueFault) → result ≡ Err e → IsText text bytes → Fails is_memory e (item_behind Base bytes) → result ≢ Err f.Memory → ReadsBase text result
+base_item_reads text bytes e result is t h ne = subst (ReadsBase text) (sym is) (item_stops Base (λ _. RefusesBaseParts) text bytes e t (fails_as e (item_behind Base bytes) result is h ne))
 
 -- a fault of the text that is not memory is what the text is as a derived value
 pub derived_text_reads : (text : List ℕ) (e : ValueFault) (result : Result DerivedValue ValueFault) → result ≡ Err e → Fails is_memory e (multibase_bytes text) → result ≢ Err f.Memory → ReadsDerived text result
-derived_text_reads text e result is h ne = subst (ReadsDerived text) (sym is) (text_stops derived_header refl RefusesDerivedParts text e (fails_as e (multibase_bytes text) result is h ne))
+derived_text_reads text e result is h ne = subst (ReadsDerived text) (sym is) (text_stops Derived RefusesDerivedParts text e (fails_as e (multibase_bytes text) result is h ne))
 
 -- a fault of the bytes of a text that is not memory is what the text is as a derived value
-pub derived_item_reads : (text bytes : List ℕ) (e : ValueFault) (result : Result DerivedValue ValueFault) → result ≡ Err e → IsText text bytes → Fails is_memory e (item_behind derived_header bytes) → result ≢ Err f.Memory → ReadsDerived text result
-derived_item_reads text bytes e result is t h ne = subst (ReadsDerived text) (sym is) (item_stops derived_header refl RefusesDerivedParts text bytes e t (fails_as e (item_behind derived_header bytes) result is h ne))
+pub derived_item_reads : (text bytes : List ℕ) (e : ValueFault) (result : Result DerivedValue ValueFault) → result ≡ Err e → IsText text bytes → Fails is_memory e (item_behind Derived bytes) → result ≢ Err f.Memory → ReadsDerived text result
+derived_item_reads text bytes e result is t h ne = subst (ReadsDerived text) (sym is) (item_stops Derived RefusesDerivedParts text bytes e t (fails_as e (item_behind Derived bytes) result is h ne))

@@ -7,18 +7,18 @@ use Rattle.proof_cbor.proofs.decoding.read_base.Goals as goal
 
 pub returns-clause-found : goal.returns-clause-found
 returns-clause-found c =
-    base_result c.args.text.now c.in_ok-bytes.bytes.items c.in_ok-item.item c.base_in.result c.in_ok-bytes.ensures.text (rw c.deref.ensures.value at c.in_ok-item.ensures) c.base_in.ensures
+    base_result c.args.text.now c.in_ok-bytes.bytes.items c.in_ok-hash.hash c.in_ok-hash.item c.base_in.result c.in_ok-bytes.ensures.text (rw c.deref.ensures.value at c.in_ok-hash.ensures) c.base_in.ensures
 
 pub returns-clause-reads : goal.returns-clause-reads
 returns-clause-reads c =
-    base_reads c.args.text.now c.in_ok-bytes.bytes.items c.in_ok-item.item c.base_in.result c.in_ok-bytes.ensures.text (rw c.deref.ensures.value at c.in_ok-item.ensures) c.base_in.ensures
+    base_reads c.args.text.now c.in_ok-bytes.bytes.items c.in_ok-hash.hash c.in_ok-hash.item c.base_in.result c.in_ok-bytes.ensures.text (rw c.deref.ensures.value at c.in_ok-hash.ensures) c.base_in.ensures
 
 pub returns-in_err-bytes-clause-reads : goal.returns-in_err-bytes-clause-reads
 returns-in_err-bytes-clause-reads c =
     let p = err_from_is_err_and c.from_residual.result c.from_residual.ensures.1 in
     base_text_reads c.args.text.now c.in_err-bytes.field-0.0 c.from_residual.result (p.1 ∙ ap (λ (e : ValueFault). Err e) p.2) c.in_err-bytes.ensures.exact
 
-pub returns-in_err-item-clause-reads : goal.returns-in_err-item-clause-reads
-returns-in_err-item-clause-reads c =
-    let p = err_from_is_err_and c.from_residual-in_err-item.result c.from_residual-in_err-item.ensures.1 in
-    base_item_reads c.args.text.now c.in_ok-bytes.bytes.items c.in_err-item.field-0.0 c.from_residual-in_err-item.result (p.1 ∙ ap (λ (e : ValueFault). Err e) p.2) c.in_ok-bytes.ensures.text (rw c.deref.ensures.value at c.in_err-item.ensures)
+pub returns-in_err-hash-clause-reads : goal.returns-in_err-hash-clause-reads
+returns-in_err-hash-clause-reads c =
+    let p = err_from_is_err_and c.from_residual-in_err-hash.result c.from_residual-in_err-hash.ensures.1 in
+    base_item_reads c.args.text.now c.in_ok-bytes.bytes.items c.in_err-hash.field-0.0 c.from_residual-in_err-hash.result (p.1 ∙ ap (λ (e : ValueFault). Err e) p.2) c.in_ok-bytes.ensures.text (rw c.deref.ensures.value at c.in_err-hash.ensures)
