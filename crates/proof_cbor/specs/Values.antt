@@ -19,8 +19,8 @@ use Rattle.proof_cbor.specs.declared.value.DerivedValue.{DerivedValue}
 use Rattle.proof_cbor.specs.declared.value.MapEntry.{MapEntry}
 pub use Rattle.digest_mac.specs.Labels.{multibase_text}
 
--- The three bytes before a value of a kind by a hash. Those by SHA-256 are the standard's (3.5.2 and
--- 3.5.7), those by SHA-384 are this project's own.
+-- The three bytes before a value of a kind by a hash. Those by SHA-256 are the standard's (3.5.2
+-- and 3.5.7), those by SHA-384 are this project's own.
 abbrev pub header : Kind → Hash → List ℕ
 header Base Sha256 = 0xd9 ∷ 0x5d ∷ 0x00 ∷ []
 header Base Sha384 = 0xd9 ∷ 0x5d ∷ 0x20 ∷ []

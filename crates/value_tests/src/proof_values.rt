@@ -2,8 +2,8 @@
 
 use base64::engine::general_purpose::URL_SAFE_NO_PAD;
 use proof_cbor::{
-    CborFault, Memory, Part, ValueFault, decode_base, decode_derived, draft_base, encode_base,
-    encode_derived,
+    CborFault, Hash, Memory, Part, ValueFault, decode_base, decode_derived, draft_base,
+    encode_base, encode_derived,
 };
 use std::alloc::Global;
 use std::test::Fail;
@@ -59,7 +59,7 @@ fn texts_that_are_cut(rt: HostRuntime) {
     assert!(rt; decode_derived(rt.alloc(), DERIVED).is_ok());
     assert!(rt; decode_base(rt.alloc(), DERIVED).err() == Some(ValueFault::Header));
     assert!(rt; decode_derived(rt.alloc(), BASE).err() == Some(ValueFault::Header));
-    let cases: [(&str, ValueFault); 9] = [
+    let cases: [(&str, ValueFault); 12] = [
         ("", ValueFault::NotMultibase),
         ("u2", ValueFault::NotMultibase),
         ("u2V", ValueFault::NotMultibase),
@@ -69,6 +69,9 @@ fn texts_that_are_cut(rt: HostRuntime) {
         ("u2V0", ValueFault::Header),
         ("u2V0A", ValueFault::Cbor(CborFault::Truncated(0))),
         ("u2V0AhVhA", ValueFault::Cbor(CborFault::Truncated(3))),
+        ("u2V0g", ValueFault::Cbor(CborFault::Truncated(0))),
+        ("u2V0ghVhA", ValueFault::Cbor(CborFault::Truncated(3))),
+        ("u2V0hhVhA", ValueFault::Header),
     ];
     for (text, want) in cases {
         assert!(rt;
@@ -333,14 +336,38 @@ fn parts_of_another_kind_or_length(rt: HostRuntime) {
     let four = [Zeros(64), Zeros(35), Zeros(32), Raw(&[0x80])];
     let text = text_of(rt.alloc(), [0xd9, 0x5d, 0x00, 0x84], four.as_slice()).expect(&rt, "memory");
     assert!(rt; decode_base(rt.alloc(), &text).err() == Some(ValueFault::Shape(Part::Array)));
+    let six = [
+        Zeros(64),
+        Zeros(35),
+        Zeros(32),
+        Raw(&[0x80]),
+        Raw(&[0x80]),
+        Raw(&[0x80]),
+    ];
+    let text = text_of(rt.alloc(), [0xd9, 0x5d, 0x20, 0x86], six.as_slice()).expect(&rt, "memory");
+    assert!(rt; decode_base(rt.alloc(), &text).err() == Some(ValueFault::Shape(Part::Array)));
 }
 
-/// A digest has 32 bytes, no fewer and no more.
+/// A digest has 32 bytes behind the header of SHA-256 and 48 behind that of SHA-384, no fewer and no
+/// more.
 #[test]
 fn digests_of_another_length(rt: HostRuntime) -> Result<(), Fail> {
     use Spelled::{Digest, Raw, Zeros};
     let wrong = Some(ValueFault::Length(Part::LabelMap));
-    for (count, want) in [(31, wrong), (32, None), (33, wrong)] {
+    let rows = [
+        (0x01, 31, wrong),
+        (0x01, 32, None),
+        (0x01, 33, wrong),
+        (0x01, 48, wrong),
+        (0x21, 32, wrong),
+        (0x21, 47, wrong),
+        (0x21, 48, None),
+        (0x21, 49, wrong),
+        (0x20, 48, Some(ValueFault::Header)),
+        (0x02, 32, Some(ValueFault::Header)),
+        (0x22, 48, Some(ValueFault::Header)),
+    ];
+    for (third, count, want) in rows {
         let parts = [
             Zeros(64),
             Zeros(35),
@@ -348,10 +375,10 @@ fn digests_of_another_length(rt: HostRuntime) -> Result<(), Fail> {
             Digest(count),
             Raw(&[0x80]),
         ];
-        let text = text_of(rt.alloc(), [0xd9, 0x5d, 0x01, 0x85], parts.as_slice())?;
+        let text = text_of(rt.alloc(), [0xd9, 0x5d, third, 0x85], parts.as_slice())?;
         assert!(rt;
             decode_derived(rt.alloc(), &text).err() == want,
-            "at {count}"
+            "at {third} and {count}"
         );
     }
     Ok(())
@@ -361,9 +388,17 @@ fn digests_of_another_length(rt: HostRuntime) -> Result<(), Fail> {
 const BASE_FULL: &str =
     "u2V0AhVhAAAECAwQFBgcICQoLDA0ODxAREhMUFRYXGBkaGxwdHh8gISIjJCUmJygpKissLS4vMDEyMzQ1Njc4OTo7PD0-P1gjZGVmZ2hpamtsbW5vcHFyc3R1dnd4eXp7fH1-f4CBgoOEhYZYIMjJysvMzc7P0NHS09TV1tfY2drb3N3e3-Dh4uPk5ebnglhAIiIiIiIiIiIiIiIiIiIiIiIiIiIiIiIiIiIiIiIiIiIiIiIiIiIiIiIiIiIiIiIiIiIiIiIiIiIiIiIiIiIiI1hARERERERERERERERERERERERERERERERERERERERERERERERERERERERERERERERERERERERERERERERERERERYJgZy9hfjFiLzA";
 
-/// The same value with a signature of bytes 255.
+/// The same value by SHA-384, as the same program writes it.
+const BASE_FULL_384: &str =
+    "u2V0ghVhAAAECAwQFBgcICQoLDA0ODxAREhMUFRYXGBkaGxwdHh8gISIjJCUmJygpKissLS4vMDEyMzQ1Njc4OTo7PD0-P1gjZGVmZ2hpamtsbW5vcHFyc3R1dnd4eXp7fH1-f4CBgoOEhYZYIMjJysvMzc7P0NHS09TV1tfY2drb3N3e3-Dh4uPk5ebnglhAIiIiIiIiIiIiIiIiIiIiIiIiIiIiIiIiIiIiIiIiIiIiIiIiIiIiIiIiIiIiIiIiIiIiIiIiIiIiIiIiIiIiI1hARERERERERERERERERERERERERERERERERERERERERERERERERERERERERERERERERERERERERERERERERERERYJgZy9hfjFiLzA";
+
+/// The value by SHA-256 with a signature of bytes 255.
 const BASE_SIGNED: &str =
     "u2V0AhVhA_____________________________________________________________________________________1gjZGVmZ2hpamtsbW5vcHFyc3R1dnd4eXp7fH1-f4CBgoOEhYZYIMjJysvMzc7P0NHS09TV1tfY2drb3N3e3-Dh4uPk5ebnglhAIiIiIiIiIiIiIiIiIiIiIiIiIiIiIiIiIiIiIiIiIiIiIiIiIiIiIiIiIiIiIiIiIiIiIiIiIiIiIiIiIiIiI1hARERERERERERERERERERERERERERERERERERERERERERERERERERERERERERERERERERERERERERERERERERERYJgZy9hfjFiLzA";
+
+/// The value by SHA-384 with that signature.
+const BASE_SIGNED_384: &str =
+    "u2V0ghVhA_____________________________________________________________________________________1gjZGVmZ2hpamtsbW5vcHFyc3R1dnd4eXp7fH1-f4CBgoOEhYZYIMjJysvMzc7P0NHS09TV1tfY2drb3N3e3-Dh4uPk5ebnglhAIiIiIiIiIiIiIiIiIiIiIiIiIiIiIiIiIiIiIiIiIiIiIiIiIiIiIiIiIiIiIiIiIiIiIiIiIiIiIiIiIiIiI1hARERERERERERERERERERERERERERERERERERERERERERERERERERERERERERERERERERERERERERERERERERERYJgZy9hfjFiLzA";
 
 /// A derived value with two signatures, the labels 1000, 24 and 0, in this order, and the indexes 1, 23
 /// and 500.
@@ -373,6 +408,14 @@ const FALLING: &str =
 /// The same value with its labels by rising number.
 const RISING: &str =
     "u2V0BhVhAAAECAwQFBgcICQoLDA0ODxAREhMUFRYXGBkaGxwdHh8gISIjJCUmJygpKissLS4vMDEyMzQ1Njc4OTo7PD0-P1gjZGVmZ2hpamtsbW5vcHFyc3R1dnd4eXp7fH1-f4CBgoOEhYaCWEAiIiIiIiIiIiIiIiIiIiIiIiIiIiIiIiIiIiIiIiIiIiIiIiIiIiIiIiIiIiIiIiIiIiIiIiIiIiIiIiIiIiIjWEBERERERERERERERERERERERERERERERERERERERERERERERERERERERERERERERERERERERERERERERERERERFowBYIBERERERERERERERERERERERERERERERERERERERERESGBhYIDMzMzMzMzMzMzMzMzMzMzMzMzMzMzMzMzMzMzMzMzM0GQPoWCBVVVVVVVVVVVVVVVVVVVVVVVVVVVVVVVVVVVVVVVVVVoMBFxkB9A";
+
+/// The first of the two by SHA-384, whose digests have 48 bytes, as another program writes it.
+const FALLING_384: &str =
+    "u2V0hhVhAAAECAwQFBgcICQoLDA0ODxAREhMUFRYXGBkaGxwdHh8gISIjJCUmJygpKissLS4vMDEyMzQ1Njc4OTo7PD0-P1gjZGVmZ2hpamtsbW5vcHFyc3R1dnd4eXp7fH1-f4CBgoOEhYaCWEAiIiIiIiIiIiIiIiIiIiIiIiIiIiIiIiIiIiIiIiIiIiIiIiIiIiIiIiIiIiIiIiIiIiIiIiIiIiIiIiIiIiIjWEBERERERERERERERERERERERERERERERERERERERERERERERERERERERERERERERERERERERERERERERERERERFoxkD6FgwVVVVVVVVVVVVVVVVVVVVVVVVVVVVVVVVVVVVVVVVVVVVVVVVVVVVVVVVVVVVVVVWGBhYMDMzMzMzMzMzMzMzMzMzMzMzMzMzMzMzMzMzMzMzMzMzMzMzMzMzMzMzMzMzMzMzNABYMBEREREREREREREREREREREREREREREREREREREREREREREREREREREREREREREREoMBFxkB9A";
+
+/// The same value with its labels by rising number.
+const RISING_384: &str =
+    "u2V0hhVhAAAECAwQFBgcICQoLDA0ODxAREhMUFRYXGBkaGxwdHh8gISIjJCUmJygpKissLS4vMDEyMzQ1Njc4OTo7PD0-P1gjZGVmZ2hpamtsbW5vcHFyc3R1dnd4eXp7fH1-f4CBgoOEhYaCWEAiIiIiIiIiIiIiIiIiIiIiIiIiIiIiIiIiIiIiIiIiIiIiIiIiIiIiIiIiIiIiIiIiIiIiIiIiIiIiIiIiIiIjWEBERERERERERERERERERERERERERERERERERERERERERERERERERERERERERERERERERERERERERERERERERERFowBYMBEREREREREREREREREREREREREREREREREREREREREREREREREREREREREREREREhgYWDAzMzMzMzMzMzMzMzMzMzMzMzMzMzMzMzMzMzMzMzMzMzMzMzMzMzMzMzMzMzMzMzQZA-hYMFVVVVVVVVVVVVVVVVVVVVVVVVVVVVVVVVVVVVVVVVVVVVVVVVVVVVVVVVVVVVVVVoMBFxkB9A";
 
 /// Whether the bytes count on from the first.
 fn count_on(bytes: &[u8], first: u8) -> bool {
@@ -396,22 +439,31 @@ fn ends_one_up(bytes: &[u8], first: u8) -> bool {
 
 #[test]
 fn parts_of_a_base_value(rt: HostRuntime) {
-    let base = decode_base(rt.alloc(), BASE_FULL).expect(&rt, "a value");
-    assert!(rt;
-        count_on(&base.signature, 0) && count_on(&base.key, 100) && count_on(&base.secret, 200)
-    );
-    assert!(rt; base.signatures.len() == 2 && base.pointers.len() == 2);
-    for (signature, first) in base.signatures.as_slice().iter().zip([0x22, 0x44]) {
-        assert!(rt; ends_one_up(signature, first), "at {first}");
+    let rows = [
+        (Hash::Sha256, BASE_FULL, BASE_SIGNED),
+        (Hash::Sha384, BASE_FULL_384, BASE_SIGNED_384),
+    ];
+    for (hash, full, signed) in rows {
+        let base = decode_base(rt.alloc(), full).expect(&rt, "a value");
+        assert!(rt;
+            base.hash == hash
+                && count_on(&base.signature, 0)
+                && count_on(&base.key, 100)
+                && count_on(&base.secret, 200)
+        );
+        assert!(rt; base.signatures.len() == 2 && base.pointers.len() == 2);
+        for (signature, first) in base.signatures.as_slice().iter().zip([0x22, 0x44]) {
+            assert!(rt; ends_one_up(signature, first), "at {first}");
+        }
+        for (pointer, want) in base.pointers.as_slice().iter().zip(["", "/a~1b/0"]) {
+            assert!(rt; pointer.as_str() == want, "at {want}");
+        }
+        let text = encode_base(rt.alloc(), &base).expect(&rt, "a value");
+        assert!(rt; text.as_str() == full);
+        let draft = draft_base(rt.alloc(), &base).expect(&rt, "a value");
+        let text = draft.finish(&[255; 64]);
+        assert!(rt; text.as_str() == signed);
     }
-    for (pointer, want) in base.pointers.as_slice().iter().zip(["", "/a~1b/0"]) {
-        assert!(rt; pointer.as_str() == want, "at {want}");
-    }
-    let text = encode_base(rt.alloc(), &base).expect(&rt, "a value");
-    assert!(rt; text.as_str() == BASE_FULL);
-    let draft = draft_base(rt.alloc(), &base).expect(&rt, "a value");
-    let text = draft.finish(&[255; 64]);
-    assert!(rt; text.as_str() == BASE_SIGNED);
     let base = decode_base(rt.alloc(), BASE).expect(&rt, "a value");
     let text = encode_base(rt.alloc(), &base).expect(&rt, "a value");
     assert!(rt; text.as_str() == BASE);
@@ -419,9 +471,19 @@ fn parts_of_a_base_value(rt: HostRuntime) {
 
 #[test]
 fn parts_of_a_derived_value(rt: HostRuntime) {
-    for (read, written) in [(FALLING, RISING), (RISING, RISING)] {
+    let rows = [
+        (Hash::Sha256, FALLING, RISING),
+        (Hash::Sha256, RISING, RISING),
+        (Hash::Sha384, FALLING_384, RISING_384),
+        (Hash::Sha384, RISING_384, RISING_384),
+    ];
+    for (hash, read, written) in rows {
         let derived = decode_derived(rt.alloc(), read).expect(&rt, "a value");
-        assert!(rt; count_on(&derived.signature, 0) && count_on(&derived.key, 100));
+        assert!(rt;
+            derived.hash == hash
+                && count_on(&derived.signature, 0)
+                && count_on(&derived.key, 100)
+        );
         assert!(rt; derived.signatures.len() == 2 && derived.labels.len() == 3);
         for (signature, first) in derived.signatures.as_slice().iter().zip([0x22, 0x44]) {
             assert!(rt; ends_one_up(signature, first), "at {first}");
@@ -433,7 +495,7 @@ fn parts_of_a_derived_value(rt: HostRuntime) {
             .zip([(0, 0x11), (24, 0x33), (1000, 0x55)])
         {
             assert!(rt;
-                label.number == number && ends_one_up(&label.digest, first),
+                label.number == number && ends_one_up(label.digest.as_slice(), first),
                 "at {number}"
             );
         }
@@ -452,7 +514,8 @@ fn values_are_compared(rt: HostRuntime) {
     let base = decode_base(rt.alloc(), BASE_FULL).expect(&rt, "a value");
     let again = decode_base(rt.alloc(), BASE_FULL).expect(&rt, "a value");
     let signed = decode_base(rt.alloc(), BASE_SIGNED).expect(&rt, "a value");
-    assert!(rt; base == again && base != signed);
+    let other = decode_base(rt.alloc(), BASE_FULL_384).expect(&rt, "a value");
+    assert!(rt; base == again && base != signed && base != other);
     let falling = decode_derived(rt.alloc(), FALLING).expect(&rt, "a value");
     let rising = decode_derived(rt.alloc(), RISING).expect(&rt, "a value");
     let other = decode_derived(rt.alloc(), DERIVED).expect(&rt, "a value");

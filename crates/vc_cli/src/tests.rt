@@ -286,6 +286,13 @@ const VERIFY_ROWS: &[Row] = &[
         r#"{"refused":{"fault":"Header","name":"ProofValue"}}"#,
     ),
     (
+        "a value by SHA-384",
+        "u2V0BhVhA",
+        "u2V0hhVhA",
+        Status::Input,
+        r#"{"refused":{"fault":"Header","name":"ProofValue"}}"#,
+    ),
+    (
         "a value cut off",
         "u2V0BhVhAAAAAAAAAAAAAAAAAAAAAAAAAAAAAAAAAAAAAAAAAAAAAAAAAAAAAAAAAAAAAAAAAAAAAAAAAAAAAAAAAAAAAAVgjAAEAAAAAAAAAAAAAAAAAAAAAAAAAAAAAAAAAAAAAAAAAAAGAoIEA",
         "u2V0BhQ",

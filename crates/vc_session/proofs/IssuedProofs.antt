@@ -108,6 +108,7 @@ issued_is before after r t w document made issuer key secret signature text byte
   signature = signature;
   document_is = document_is r t w document text is;
   spells = spells;
+  hash_is = refl;
   key_is = ap (λ (k : KeyName). k.bytes) (sym key_is);
   signature_is = refl;
   secret = told;

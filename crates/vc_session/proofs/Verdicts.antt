@@ -1,5 +1,5 @@
 -- Verdicts: indexes and counts, the case of a task, and what a yes says.
-use Rattle.std.proofs.Common.{◌≡◌, ℕ, ◌-◌, ◌<◌, ◌≤◌, List, [], ◌∷◌, ◌++◌, length, get_or, map, All, Contains, Bool, true, false, not, Some, None, Ok, Err, nat_le, refl, sym, ap, ◌∙◌, subst, arith}
+use Rattle.std.proofs.Common.{◌≡◌, ℕ, ◌-◌, ◌<◌, ◌≤◌, List, [], ◌∷◌, ◌++◌, length, get_or, map, All, Contains, Bool, true, false, not, Some, None, Ok, Err, nat_le, inl, inr, refl, sym, ap, ◌∙◌, subst, arith}
 use Rattle.std.specs.Prelude.{Result}
 use Rattle.std.specs.Result.{IsErrAnd}
 use Rattle.std.specs.List.{AllZip, position, prefix_len}
@@ -17,6 +17,9 @@ use Rattle.key_device.specs.Devices.{Acceptance, DeviceMeaning}
 use Rattle.key_device.specs.Tables.{key_for}
 use Rattle.nquads.specs.Terms.{Statement}
 use Rattle.nquads.specs.Lines.{canonical_lines, line}
+use Rattle.digest_mac.specs.declared.hash.Hash.TheVariants.{Sha384}
+use Rattle.proof_cbor.specs.declared.fault.ValueFault.{ValueFault}
+use Rattle.proof_cbor.specs.declared.fault.ValueFault.TheVariants as value_fault
 use Rattle.proof_cbor.specs.declared.value.DerivedValue.{DerivedValue}
 use Rattle.proof_cbor.specs.Refusals.{RefusesDerived}
 use Rattle.proof_cbor.specs.Values.{SpellsDerived}
@@ -32,7 +35,7 @@ use Rattle.stmt_groups.proofs.Revealing.{document_reveals, options_same}
 use Rattle.vc_session.specs.declared.tasks.VerifyTask.{VerifyTask}
 use Rattle.vc_session.specs.Internal.Tasks.{IsVerifyTask}
 use Rattle.vc_session.specs.Issuing.{no_label}
-use Rattle.vc_session.specs.Verifying.{HasCause, IsFirstOver, IsPlainValue, IsRight, IsSound, IsVerifyCase, IsYes, VerifyCase, key_name, signature, verify_data}
+use Rattle.vc_session.specs.Verifying.{HasCause, IsFirstOver, IsPlainValue, IsRight, IsSound, IsVerifyCase, IsYes, RefusesBySha256, SpellsBySha256, VerifyCase, key_name, signature, verify_data}
 use Rattle.vc_session.proofs.FlatTexts.{flat_labelled}
 use Rattle.vc_session.specs.declared.verifying.Verdict.{Verdict}
 use Rattle.vc_session.specs.declared.verifying.VerifyFault.{VerifyFault}
@@ -102,9 +105,9 @@ module _ (r : Tree) (t : VerifyTask) (w : IsVerifyTask r t) (value : DerivedValu
   abbrev pub case_of : VerifyCase
   case_of = record { parts = w.parts; statements = w.statements; options = w.option_statements; value = value }
 
-  module _ (spells : SpellsDerived value t.value) (plain : IsPlainValue value) where
+  module _ (spells : SpellsBySha256 value t.value) (plain : IsPlainValue value) where
     pub is_case_of : IsVerifyCase r case_of
-    is_case_of = record { are = w.are; means = w.means; options_mean = w.options_mean; spells = subst (SpellsDerived value) w.value spells; plain = plain }
+    is_case_of = record { are = w.are; means = w.means; options_mean = w.options_mean; spells = subst (SpellsBySha256 value) w.value spells; plain = plain }
 
   -- a good proof is sound
   pub sound_of : (accepts : Acceptance) (issuer : KeyName) → IsGood accepts (verify_data case_of issuer) → IsSound accepts case_of issuer
@@ -176,10 +179,18 @@ module _ (r : Tree) (t : VerifyTask) (w : IsVerifyTask r t) (value : DerivedValu
         (issuer, (λ i. key_for (sym w.keys i) (sym w.method i)) ∙ found, ap (λ (bs : List ℕ). accepts issuer bs (signature value.signature)) (sym checked) ∙ sym said),
       )
 
+-- a value by SHA-384 is refused for its header
+pub other_hash : (text : List ℕ) (value : DerivedValue) → SpellsDerived value text → value.hash ≡ Sha384 → RefusesBySha256 text value_fault.Header
+other_hash text value spells is = inr (value, spells, is, refl)
+
+-- what is no derived value is refused as it is
+pub no_value : (text : List ℕ) (fault : ValueFault) → RefusesDerived text fault → RefusesBySha256 text fault
+no_value text fault refused = inl refused
+
 -- a value that is none, or not plain
 pub value_refused : (before after : DeviceMeaning) (r : Tree) (t : VerifyTask) (w : IsVerifyTask r t) (why : VerifyFault) → ReadsPlain t.value (Err why) → Verifies before after r (Err why)
-value_refused before after r t w unverified.NotBuilt h = (w.parts, h.0, w.are, subst (SpellsDerived h.0) w.value h.1, h.2)
-value_refused before after r t w (unverified.Value why) h = (w.parts, w.are, subst (λ (text : List ℕ). RefusesDerived text why) w.value h)
+value_refused before after r t w unverified.NotBuilt h = (w.parts, h.0, w.are, subst (SpellsBySha256 h.0) w.value h.1, h.2)
+value_refused before after r t w (unverified.Value why) h = (w.parts, w.are, subst (λ (text : List ℕ). RefusesBySha256 text why) w.value h)
 value_refused before after r t w unverified.Memory h = tt
 value_refused before after r t w other h = absurd h
 
@@ -194,3 +205,5 @@ no_memory before after r (Ok v) is = absurd is
 no_memory before after r (Err y) is = subst (λ (x : VerifyFault). Verifies before after r (Err x)) (sym is) tt
 
 pub ruleset cause_steps = (is_first_over, count_cause, no_cause)
+
+pub ruleset value_steps = (other_hash, no_value)

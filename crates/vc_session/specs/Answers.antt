@@ -17,15 +17,13 @@ use Rattle.key_device.specs.Devices.{Acceptance, CountsFault, DeviceMeaning, Sti
 use Rattle.key_device.specs.Tables.{key_for}
 use Rattle.proof_cbor.specs.declared.fault.ValueFault.{ValueFault}
 use Rattle.proof_cbor.specs.declared.value.DerivedValue.{DerivedValue}
-use Rattle.proof_cbor.specs.Refusals.{RefusesDerived}
-use Rattle.proof_cbor.specs.Values.{SpellsDerived}
 use Rattle.stmt_groups.specs.declared.types.BaseRecord.{BaseRecord}
 use Rattle.stmt_groups.specs.declared.types.Cause.{Cause}
 use Rattle.vc_session.specs.Replies.{input_limit}
 use Rattle.vc_session.specs.Requests.{IsFlatIssue, IsFlatVerify, IsVerify, VerifyParts}
 use Rattle.vc_session.specs.ReplyTrees.{issued_tree, line_of, no_key_tree, not_whole_tree, proof_value_tree, rejected_tree, unknown_method_tree, verified_tree}
 use Rattle.vc_session.specs.Issuing.{IsAsked, IsIssueCase, IsIssued, IssueCase, no_label}
-use Rattle.vc_session.specs.Verifying.{HasCause, IsPlainValue, IsRight, IsSound, IsVerifyCase, IsYes, VerifyCase, key_name}
+use Rattle.vc_session.specs.Verifying.{HasCause, IsPlainValue, IsRight, IsSound, IsVerifyCase, IsYes, RefusesBySha256, SpellsBySha256, VerifyCase, key_name}
 
 -- the text is the canonical text of the flat meaning of the request
 pub record IsTextOf (request : Tree) (text : List ℕ) : Type 0 where
@@ -71,10 +69,10 @@ abbrev pub VerifyAnswers : DeviceMeaning → DeviceMeaning → Tree → Reply �
 VerifyAnswers before after r reply.NotBuilt =
     (IsFlatVerify r → ⊥)
     ⊎ ((p : VerifyParts) × (value : DerivedValue) × IsVerify r p
-    × SpellsDerived value p.value × (IsPlainValue value → ⊥))
+    × SpellsBySha256 value p.value × (IsPlainValue value → ⊥))
 VerifyAnswers before after r (reply.ProofValue line) =
     (p : VerifyParts) × (fault : ValueFault) × IsVerify r p
-    × RefusesDerived p.value fault
+    × RefusesBySha256 p.value fault
     × (line ≡ line_of (proof_value_tree fault))
 VerifyAnswers before after r (reply.No line) =
     (c : VerifyCase) × (why : Cause) × IsVerifyCase r c

@@ -5,6 +5,7 @@ use Rattle.key_device.specs.declared.keys.Signature.{Signature}
 use Rattle.key_device.specs.Devices.{DeviceMeaning, GrewBy, IsSecretTold, log_entry}
 use Rattle.key_device.specs.Tables.{key_for}
 use Rattle.nquads.specs.Terms.{Blank, Statement}
+use Rattle.digest_mac.specs.declared.hash.Hash.TheVariants.{Sha256}
 use Rattle.proof_cbor.specs.declared.value.BaseValue.{BaseValue}
 use Rattle.proof_cbor.specs.Values.{SpellsBase}
 use Rattle.ld_rdf.specs.Flat.{IsFlatMeaning}
@@ -36,11 +37,11 @@ pub record IsIssueCase (r : Tree) (c : IssueCase) : Type 0 where
 abbrev pub signed_bytes : BaseRecord → List ℕ
 signed_bytes made = sign_data made.options made.key made.mandatory
 
--- What was issued: the document with the given options and a proof value whose statement key is
--- that of the record, whose secret is the one that the device told, and in which every statement is
--- mandatory. The record has the options' lines and the statements' lines; its issuer key is that of
--- the method, which the device owns; the issuer's signature is accepted, and the device's log grew
--- by exactly it.
+-- What was issued: the document with the given options and a proof value by SHA-256 whose statement
+-- key is that of the record, whose secret is the one that the device told, and in which every
+-- statement is mandatory. The record has the options' lines and the statements' lines; its issuer
+-- key is that of the method, which the device owns; the issuer's signature is accepted, and the
+-- device's log grew by exactly it.
 pub record IsIssued (before after : DeviceMeaning)
     (c : IssueCase) (document : Tree) (made : BaseRecord) : Type 0 where
   pub some_statements : c.statements ≢ []
@@ -49,6 +50,7 @@ pub record IsIssued (before after : DeviceMeaning)
   pub signature : Signature
   pub document_is : document ≡ with_proof c.parts.document c.parts.options text
   pub spells : SpellsBase value text
+  pub hash_is : value.hash ≡ Sha256
   pub key_is : value.key ≡ made.key.bytes
   pub signature_is : value.signature ≡ signature.bytes
   pub secret : IsSecretTold before value.secret

@@ -1,6 +1,6 @@
 -- What verifying answers. Data Integrity ECDSA Cryptosuites 1.0, verify derived proof
 -- (ecdsa-sd-2023).
-use Rattle.std.specs.Prelude.{◌≡◌, ◌≢◌, ◌≤◌, ◌<◌, ℕ, false, List, [], map, Some, length, slice_get}
+use Rattle.std.specs.Prelude.{◌≡◌, ◌≢◌, ◌⊎◌, ◌≤◌, ◌<◌, ℕ, false, List, [], map, Some, length, slice_get}
 use Rattle.json_tree.specs.declared.tree.Tree.{Tree}
 use Rattle.key_device.specs.declared.keys.KeyName.{KeyName}
 use Rattle.key_device.specs.declared.keys.Signature.{Signature}
@@ -9,7 +9,11 @@ use Rattle.key_device.specs.Tables.{key_for}
 use Rattle.nquads.specs.Terms.{Statement}
 use Rattle.nquads.specs.Lines.{canonical_lines}
 use Rattle.nquads.specs.Renaming.{Same}
+use Rattle.digest_mac.specs.declared.hash.Hash.TheVariants.{Sha256, Sha384}
+use Rattle.proof_cbor.specs.declared.fault.ValueFault.{ValueFault}
+use Rattle.proof_cbor.specs.declared.fault.ValueFault.TheVariants.{Header}
 use Rattle.proof_cbor.specs.declared.value.DerivedValue.{DerivedValue}
+use Rattle.proof_cbor.specs.Refusals.{RefusesDerived}
 use Rattle.proof_cbor.specs.Values.{SpellsDerived}
 use Rattle.ld_rdf.specs.Flat.{IsFlatMeaning}
 use Rattle.stmt_groups.specs.declared.types.BaseRecord.{BaseRecord}
@@ -39,6 +43,17 @@ proof_of value = record {
   indexes = value.indexes;
 }
 
+-- the text spells the derived value, and by SHA-256
+abbrev pub SpellsBySha256 : DerivedValue → List ℕ → Type 0
+SpellsBySha256 value text = SpellsDerived value text × (value.hash ≡ Sha256)
+
+-- The text is refused as a derived value, or it spells one by SHA-384, whose header is not taken.
+abbrev pub RefusesBySha256 : List ℕ → ValueFault → Type 0
+RefusesBySha256 text fault =
+    RefusesDerived text fault
+    ⊎ ((value : DerivedValue) × SpellsDerived value text × (value.hash ≡ Sha384)
+    × (fault ≡ Header))
+
 -- a value for statements that have no blank nodes and are all mandatory
 abbrev pub IsPlainValue : DerivedValue → Type 0
 IsPlainValue value = (value.signatures ≡ []) × (value.labels ≡ [])
@@ -54,7 +69,7 @@ pub record IsVerifyCase (r : Tree) (c : VerifyCase) : Type 0 where
   pub are : IsVerify r c.parts
   pub means : IsFlatMeaning (verify_body c.parts) c.statements
   pub options_mean : IsFlatMeaning (verify_options c.parts) c.options
-  pub spells : SpellsDerived c.value c.parts.value
+  pub spells : SpellsBySha256 c.value c.parts.value
   pub plain : IsPlainValue c.value
 
 -- the canonical lines of its statements

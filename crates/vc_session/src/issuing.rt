@@ -219,6 +219,7 @@ fn value(alloc: Global, fresh: &Fresh) -> Result<BaseDraft, Memory>
     let mut pointers = Sequence::new(alloc);
     pointers.push(Text::new(alloc))?;
     let value = BaseValue {
+        hash: Hash::Sha256,
         signature: [0; 64],
         key: fresh.key.bytes,
         secret: fresh.secret,

@@ -13,6 +13,7 @@ ghost use Rattle.vc_session.specs.Verifying.{IsPlainValue};
 
 use crate::lines::{lines_of, signed_bytes};
 use crate::tasks::VerifyTask;
+use digest_mac::Hash;
 use key_device::{DeviceError, KeyDevice, KeyName, Signature};
 use nquads::{Memory, Sequence, Text};
 use proof_cbor::{CborFault, DerivedValue, ValueFault, decode_derived};
@@ -41,7 +42,7 @@ pub(crate) enum Verdict {
 pub(crate) enum VerifyFault {
     /// The proof value has signatures or labels.
     NotBuilt,
-    /// The proof value is none.
+    /// The proof value is none by SHA-256.
     Value(ValueFault),
     /// The key table has no key for this verification method.
     UnknownMethod(Text),
@@ -101,17 +102,21 @@ pub(crate) fn verify<D: KeyDevice>(
     }
 }
 
-/// The value that a text spells, if it has neither signatures nor labels.
+/// The value by SHA-256 that a text spells, if it has neither signatures nor labels.
+#[tactic(auto, using(crate::proofs::Verdicts::value_steps))]
 fn plain_value(alloc: Global, text: &str) -> Result<DerivedValue, VerifyFault>
     ensures { ReadsPlain text.now result }
 {
     match decode_derived(alloc, text) {
-        Ok(value) => {
-            if !is_plain(&value) {
-                return Err(VerifyFault::NotBuilt);
+        Ok(value) => match value.hash {
+            Hash::Sha384 => Err(VerifyFault::Value(ValueFault::Header)),
+            Hash::Sha256 => {
+                if !is_plain(&value) {
+                    return Err(VerifyFault::NotBuilt);
+                }
+                Ok(value)
             }
-            Ok(value)
-        }
+        },
         Err(fault) => {
             if is_out_of_memory(&fault) {
                 return Err(VerifyFault::Memory);

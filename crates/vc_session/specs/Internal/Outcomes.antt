@@ -12,11 +12,10 @@ use Rattle.json_tree.specs.Trees.{is_in_range, is_lawful}
 use Rattle.key_device.specs.declared.keys.KeyName.{KeyName}
 use Rattle.key_device.specs.Devices.{Acceptance, CountsFault, DeviceMeaning}
 use Rattle.key_device.specs.Tables.{key_for}
+use Rattle.digest_mac.specs.declared.hash.Hash.TheVariants.{Sha256}
 use Rattle.proof_cbor.specs.declared.fault.ValueFault.{ValueFault}
 use Rattle.proof_cbor.specs.declared.value.BaseValue.{BaseValue}
 use Rattle.proof_cbor.specs.declared.value.DerivedValue.{DerivedValue}
-use Rattle.proof_cbor.specs.Refusals.{RefusesDerived}
-use Rattle.proof_cbor.specs.Values.{SpellsDerived}
 use Rattle.stmt_groups.specs.declared.types.BaseRecord.{BaseRecord}
 use Rattle.stmt_groups.specs.declared.types.Cause.{Cause}
 use Rattle.stmt_groups.specs.declared.types.Cause.TheVariants as cause
@@ -36,7 +35,7 @@ use Rattle.vc_session.specs.Replies.{input_limit}
 use Rattle.vc_session.specs.ReplyTrees.{issued_tree, line_of, no_key_tree, not_whole_tree, proof_value_tree, rejected_tree, unknown_method_tree, verified_tree}
 use Rattle.vc_session.specs.Requests.{IsVerify, VerifyParts}
 use Rattle.vc_session.specs.Issuing.{IsAsked, IsIssueCase, IsIssued, IssueCase}
-use Rattle.vc_session.specs.Verifying.{HasCause, IsFirstOver, IsPlainValue, IsRight, IsSound, IsVerifyCase, IsYes, VerifyCase, key_name}
+use Rattle.vc_session.specs.Verifying.{HasCause, IsFirstOver, IsPlainValue, IsRight, IsSound, IsVerifyCase, IsYes, RefusesBySha256, SpellsBySha256, VerifyCase, key_name}
 use Rattle.vc_session.specs.Answers.{IsInput}
 
 -- ---- a request
@@ -82,9 +81,10 @@ IsReply answers other = answers other
 
 -- ---- issuing
 
--- a base value in which every statement is mandatory
+-- a base value by SHA-256 in which every statement is mandatory
 abbrev pub whole_value : List ℕ → List ℕ → List ℕ → BaseValue
 whole_value key secret signature = record {
+  hash = Sha256;
   signature = signature;
   key = key;
   secret = secret;
@@ -129,13 +129,14 @@ SignsFor r before after other = after.log ≡ before.log
 
 -- ---- verifying
 
--- what a text is read as: a value for statements that are all mandatory, another value, or none
+-- what a text is read as: a value for statements that are all mandatory, another value, or none;
+-- each by SHA-256
 abbrev pub ReadsPlain : List ℕ → Result DerivedValue VerifyFault → Type 0
 ReadsPlain text (Ok value) =
-    SpellsDerived value text × IsPlainValue value × (rise value.indexes ≡ true)
+    SpellsBySha256 value text × IsPlainValue value × (rise value.indexes ≡ true)
 ReadsPlain text (Err unverified.NotBuilt) =
-    (value : DerivedValue) × SpellsDerived value text × (IsPlainValue value → ⊥)
-ReadsPlain text (Err (unverified.Value why)) = RefusesDerived text why
+    (value : DerivedValue) × SpellsBySha256 value text × (IsPlainValue value → ⊥)
+ReadsPlain text (Err (unverified.Value why)) = RefusesBySha256 text why
 ReadsPlain text (Err unverified.Memory) = Unit {0}
 ReadsPlain text (Err other) = ⊥
 
@@ -162,9 +163,9 @@ Verifies before after r (Ok (verdict.No why)) =
     (c : VerifyCase) × IsVerifyCase r c × HasCause before.accepts c why
 Verifies before after r (Err unverified.NotBuilt) =
     (p : VerifyParts) × (value : DerivedValue) × IsVerify r p
-    × SpellsDerived value p.value × (IsPlainValue value → ⊥)
+    × SpellsBySha256 value p.value × (IsPlainValue value → ⊥)
 Verifies before after r (Err (unverified.Value why)) =
-    (p : VerifyParts) × IsVerify r p × RefusesDerived p.value why
+    (p : VerifyParts) × IsVerify r p × RefusesBySha256 p.value why
 Verifies before after r (Err (unverified.UnknownMethod method)) =
     (c : VerifyCase) × IsVerifyCase r c × IsRight c
     × (key_for c.parts.table c.parts.method ≡ None) × (method ≡ c.parts.method)

@@ -2,11 +2,10 @@ use Rattle.std.proofs.Common.{rules, ◌≡◌, ℕ, true, false, List, [], leng
 use Rattle.std.proofs.lemmas.List.{length-map}
 use Rattle.key_device.specs.declared.device.DeviceError.{DeviceError}
 use Rattle.key_device.specs.Tables.{key_for}
-use Rattle.proof_cbor.specs.Values.{SpellsDerived}
 use Rattle.nquads.specs.Spelling.{text_quad}
 use Rattle.stmt_groups.specs.Records.{sign_data}
 use Rattle.vc_session.specs.Internal.Outcomes.{IsCauseOf, ReadsPlain}
-use Rattle.vc_session.specs.Verifying.{key_name, signature}
+use Rattle.vc_session.specs.Verifying.{SpellsBySha256, key_name, signature}
 use Rattle.vc_session.proofs.Verdicts.{case_of, cause_is, checked_are, is_case_of, is_good, is_no, is_right, is_yes, no_memory, sound_of, value_failed}
 use Rattle.vc_session.proofs.verifying.verify.Goals as goal
 
@@ -17,7 +16,7 @@ returns-in-Some-clause-outcome g c = λ r w.
     let h : IsCauseOf c.in_ok-lines.lines value.indexes (Some c.in-Some.cause) =
     subst (λ (ls : List (List ℕ)). IsCauseOf ls value.indexes (Some c.in-Some.cause)) c.as_slice.ensures (subst (λ (xs : List ℕ). IsCauseOf c.as_slice.result.now xs (Some c.in-Some.cause)) c.as_slice-2.ensures c.in-Some.ensures) in (
       case_of r c.args.task w value,
-      is_case_of r c.args.task w value (subst (SpellsDerived value) c.as_str.ensures c.in_ok-value.ensures.0) plain,
+      is_case_of r c.args.task w value (subst (SpellsBySha256 value) c.as_str.ensures c.in_ok-value.ensures.0) plain,
       cause_is r c.args.task w value (g.D.KeyDevice.means c.args.device.now).accepts c.in_ok-lines.lines c.in-Some.cause plain.0 (c.in_ok-lines.ensures w.statements w.quads) h,
     )
 
@@ -28,7 +27,7 @@ returns-in_default-find-clause-outcome g c = λ r w.
     let h : IsCauseOf c.in_ok-lines.lines value.indexes None = rw (c.as_slice.ensures, c.as_slice-2.ensures) at c.in_default.ensures in
     let none : key_for c.args.task.keys.entries c.args.task.method ≡ None = search rules in (
       case_of r c.args.task w value,
-      is_case_of r c.args.task w value (subst (SpellsDerived value) c.as_str.ensures c.in_ok-value.ensures.0) plain,
+      is_case_of r c.args.task w value (subst (SpellsBySha256 value) c.as_str.ensures c.in_ok-value.ensures.0) plain,
       is_right r c.args.task w value c.in_ok-lines.lines (c.in_ok-lines.ensures w.statements w.quads) plain.0 h,
       (λ i. key_for (sym w.keys i) (sym w.method i)) ∙ none,
       w.method,
@@ -65,7 +64,7 @@ returns-in-Ok-true-clause-outcome g c = λ r w.
     let bytes = c.deref.result.now in
     let accepts = (g.D.KeyDevice.means c.args.device.now).accepts in
     let plain = c.in_ok-value.ensures.1 in
-    let reads = subst (SpellsDerived value) c.as_str.ensures c.in_ok-value.ensures.0 in
+    let reads = subst (SpellsBySha256 value) c.as_str.ensures c.in_ok-value.ensures.0 in
     let are = c.in_ok-lines.ensures w.statements w.quads in
     let h : IsCauseOf lines value.indexes None = rw (c.as_slice.ensures, c.as_slice-2.ensures) at c.in_default.ensures in
     let given : Some issuer ≡ key_for task.keys.entries c.as_str-2.result.now = c.in-Some-find.ensures in
@@ -97,7 +96,7 @@ returns-in-Ok-false-clause-outcome g c = λ r w.
     let bytes = c.deref.result.now in
     let accepts = (g.D.KeyDevice.means c.args.device.now).accepts in
     let plain = c.in_ok-value.ensures.1 in
-    let reads = subst (SpellsDerived value) c.as_str.ensures c.in_ok-value.ensures.0 in
+    let reads = subst (SpellsBySha256 value) c.as_str.ensures c.in_ok-value.ensures.0 in
     let are = c.in_ok-lines.ensures w.statements w.quads in
     let h : IsCauseOf lines value.indexes None = rw (c.as_slice.ensures, c.as_slice-2.ensures) at c.in_default.ensures in
     let given : Some issuer ≡ key_for task.keys.entries c.as_str-2.result.now = c.in-Some-find.ensures in
