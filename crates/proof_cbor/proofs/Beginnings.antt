@@ -11,7 +11,7 @@ use Rattle.proof_cbor.specs.declared.fault.ValueFault.{ValueFault}
 use Rattle.proof_cbor.specs.declared.value.BaseValue.{BaseValue}
 use Rattle.proof_cbor.specs.declared.value.DerivedValue.{DerivedValue}
 use Rattle.proof_cbor.specs.Values.{header, multibase_text, base_item, base_proof_bytes, derived_item, derived_proof_bytes, pair_of, SpellsBase, SpellsDerived}
-use Rattle.proof_cbor.specs.Internal.Reading.{multibase_bytes, reading_base, reading_derived}
+use Rattle.proof_cbor.specs.Internal.Reading.{multibase_bytes}
 use Rattle.proof_cbor.proofs.Drafts.{item_begins}
 use Rattle.proof_cbor.proofs.Spelled.{bytes_again, base_read, derived_read}
 

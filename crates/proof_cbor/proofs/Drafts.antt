@@ -71,8 +71,8 @@ put_bytes value old new signature draft long is =
     let first : take 6 old ≡ front value.hash = ap (take 6) s ∙ six_bytes value.hash (value.signature ++ behind_signature value) in
     let before : length (front value.hash ++ value.signature) ≡ 70 = omega (arith, length-append (front value.hash) value.signature, length_front value.hash, draft.0.0.signature) in
     let last : drop 70 old ≡ behind_signature value =
-        ap (drop 70) (s ∙ sym (append_assoc (front value.hash) value.signature (behind_signature value)))
-        ∙ drop_at (front value.hash ++ value.signature) (behind_signature value) 70 before in
+    ap (drop 70) (s ∙ sym (append_assoc (front value.hash) value.signature (behind_signature value)))
+    ∙ drop_at (front value.hash ++ value.signature) (behind_signature value) 70 before in
     is ∙ rw (first, last) (sym (split_bytes (with_signature value signature) long))
 
 length_encoded : (bytes : List ℕ) → length (encode_of url_safe_no_pad bytes) ≡ encoded_size_of url_safe_no_pad (length bytes)
