@@ -480,9 +480,7 @@ fn parts_of_a_derived_value(rt: HostRuntime) {
     for (hash, read, written) in rows {
         let derived = decode_derived(rt.alloc(), read).expect(&rt, "a value");
         assert!(rt;
-            derived.hash == hash
-                && count_on(&derived.signature, 0)
-                && count_on(&derived.key, 100)
+            derived.hash == hash && count_on(&derived.signature, 0) && count_on(&derived.key, 100)
         );
         assert!(rt; derived.signatures.len() == 2 && derived.labels.len() == 3);
         for (signature, first) in derived.signatures.as_slice().iter().zip([0x22, 0x44]) {
